@@ -1,0 +1,9 @@
+pub mod FlagsWord
+pub mod Registers
+pub mod Rows
+pub mod Notation
+pub mod Table
+pub mod ModRm
+pub mod Numbers
+pub mod Operands
+pub mod Spelling

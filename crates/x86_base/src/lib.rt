@@ -1,0 +1,21 @@
+//! The registers and instructions of a 64-bit x86 processor, and which bytes spell which instruction.
+//!
+//! `specs/Spelling.antt` is the definition of a spelling, over the opcode table of `specs/Table.antt`.
+#![tactic(auto)]
+
+pub mod flags;
+pub mod insn;
+pub mod memory;
+pub mod op;
+pub mod reg;
+pub mod regs;
+pub mod row;
+pub mod stop;
+
+pub use flags::Flags;
+pub use insn::{Insn, Operand};
+pub use memory::{MemRef, address};
+pub use op::Op;
+pub use reg::{Reg, Width};
+pub use regs::Regs;
+pub use stop::Stop;
