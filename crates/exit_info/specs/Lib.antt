@@ -1,0 +1,4 @@
+pub mod Bits
+pub mod ExitCode
+pub mod Inject
+pub mod IoInfo
