@@ -1,0 +1,3 @@
+pub mod OneBit
+pub mod Table
+pub mod PageBytes

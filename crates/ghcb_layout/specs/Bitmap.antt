@@ -1,0 +1,21 @@
+-- The valid bitmap (AMD 56421, "GHCB Layout", VALID_BITMAP): bit k says that word k is filled in.
+use Rattle.std.specs.Prelude.{◌≡◌, ◌≢◌, ℕ, ◌+◌, ◌-◌, ◌*◌, ◌^◌, ◌<◌, ◌==◌, nat_lt, Bool, true, if◌then◌else◌}
+use Rattle.std.specs.Int.{bit_at}
+use Rattle.ghcb_layout.specs.declared.bitmap.Bitmap.{Bitmap}
+
+-- whether bit k is set: the first word has bits 0 to 63, and the second has bits 64 to 127
+abbrev pub has_bit : Bitmap → ℕ → Bool
+has_bit b k = (if nat_lt k 64 then bit_at b.low k else bit_at b.high (k - 64)) == 1
+
+-- a number with bit k set
+abbrev pub with_one : ℕ → ℕ → ℕ
+with_one n k = n + (1 - bit_at n k) * 2 ^ k
+
+-- the bitmap with bit k set
+abbrev pub with_bit : Bitmap → ℕ → Bitmap
+with_bit b k = if nat_lt k 64 then record b { low = with_one b.low k } else record b { high = with_one b.high (k - 64) }
+
+-- bit k is set, and every other bit is as it was
+pub record Sets (old new : Bitmap) (k : ℕ) : Type 0 where
+  pub bit : has_bit new k ≡ true
+  pub others : (j : ℕ) → j < 128 → j ≢ k → has_bit new j ≡ has_bit old j

@@ -1,0 +1,4 @@
+pub mod Bitmap
+pub mod Bytes
+pub mod Field
+pub mod Protocol
