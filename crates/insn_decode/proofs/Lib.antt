@@ -1,0 +1,11 @@
+pub mod Tests
+pub mod Rows
+pub mod Decides
+pub mod Opcode
+pub mod Tail
+pub mod Prefixes
+pub mod Starts
+pub mod Contexts
+pub mod Whole
+pub mod EveryRow
+pub mod Window

@@ -1,0 +1,5 @@
+use Rattle.insn_decode.proofs.EveryRow.{has_width}
+use Rattle.insn_decode.proofs.laws.source_widths.Goals as goal
+
+pub returns : goal.returns
+returns c = has_width

@@ -1,0 +1,54 @@
+//! The instruction of a row and the bytes behind its opcode.
+ghost use Rattle.std.specs.Prelude.{◌≡◌};
+ghost use Rattle.x86_base.specs.Operands.{width_of, source_width_of, insn_of};
+ghost use Rattle.x86_base.specs.Spelling.{IsTail};
+
+use crate::context::is_long;
+use crate::operands::{destination, source};
+use crate::operation::operation;
+use crate::sizes::modrm_byte;
+use x86_base::row::{Context, Form, Row, RowWidth};
+use x86_base::{Insn, Op, Width};
+
+/// The width of a row.
+fn width(context: &Context, width: RowWidth) -> Width
+    ensures { result ≡ width_of context.now width }
+{
+    let is_long = is_long(context);
+    match width {
+        RowWidth::B => Width::B8,
+        RowWidth::V if is_long => Width::B64,
+        RowWidth::V | RowWidth::Z if !is_long && context.size => Width::B16,
+        RowWidth::V | RowWidth::Z => Width::B32,
+        RowWidth::Q => Width::B64,
+    }
+}
+
+/// The width of the source: that of the r/m operand in a widening move, else the row's.
+fn source_width(context: &Context, row: &Row) -> Width
+    ensures { result ≡ source_width_of context.now row.now row.now.form }
+{
+    match row.form {
+        Form::RegRmByte => Width::B8,
+        Form::RegRmWord => Width::B16,
+        Form::RegRmDouble => Width::B32,
+        _ => width(context, row.width),
+    }
+}
+
+/// The instruction of a row, the bytes behind its opcode and the number of all bytes.
+#[tactic(auto, unfolding(x86_base::specs::Operands::insn_of))]
+pub fn insn(context: &Context, row: &Row, tail: &[u8], len: u8) -> Insn
+    requires { IsTail context.now row.now tail.now }
+    ensures { result ≡ insn_of context.now row.now tail.now len }
+{
+    Insn {
+        op: operation(row.ops, modrm_byte(row, tail) / 8 % 8).unwrap_or(Op::Nop),
+        width: width(context, row.width),
+        source_width: source_width(context, row),
+        dst: destination(context, row, tail),
+        src: source(context, row, tail),
+        rep: context.rep,
+        len,
+    }
+}
