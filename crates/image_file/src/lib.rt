@@ -1,0 +1,20 @@
+//! Guest images: the file format with its rules, and the private RAM that an image opens with.
+//!
+//! A file is a header of 64 bytes, then the guest's code, then its data. [`Image::read`] tests the
+//! rules of the format in order and keeps what the file holds. [`Image::ram`] makes the memory that
+//! a virtual processor starts with, and [`Ram`] reads and writes it.
+#![tactic(auto)]
+
+mod fault;
+mod header;
+mod image;
+mod number;
+mod ram;
+mod rules;
+
+pub use fault::{ImageError, ImageFault};
+pub use image::Image;
+pub use ram::{OutOfRam, Ram, RamFault};
+
+#[cfg(test)]
+mod tests;
