@@ -1,0 +1,4 @@
+pub mod Condition
+pub mod Number
+pub mod Outcome
+pub mod Table
