@@ -1,0 +1,5 @@
+pub mod Digits
+pub mod Info
+pub mod Msr
+pub mod Number
+pub mod Page
