@@ -1,0 +1,17 @@
+//! What a guest asks of the devices and what it is answered, and what an instruction does to a
+//! vCPU: `specs/Plan.antt` is the form in which every instruction's meaning is written.
+#![tactic(auto)]
+
+mod access;
+mod bytes;
+mod end;
+mod event;
+mod outcome;
+mod turn;
+
+pub use access::{Access, Values};
+pub use bytes::Bytes;
+pub use end::{End, Reason};
+pub use event::Event;
+pub use outcome::{Outcome, Reply};
+pub use turn::{Finished, Turn};
