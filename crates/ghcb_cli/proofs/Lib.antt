@@ -1,0 +1,13 @@
+pub mod Going
+pub mod PlainRounds
+pub mod Accepting
+pub mod Settling
+pub mod Agreeing
+pub mod Visiting
+pub mod Seating
+pub mod Values
+pub mod Filling
+pub mod Limits
+pub mod Outputs
+pub mod Answering
+pub mod Bytes

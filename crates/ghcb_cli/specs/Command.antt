@@ -1,0 +1,77 @@
+-- The words of the program.
+use Rattle.std.specs.Prelude.{ℕ, ◌+◌, ◌*◌, ◌-◌, ◌==◌, ◌&&◌, not, nat_le, nat_lt, if◌then◌else◌, Bool, List, [], ◌∷◌, codes, length, Option, Some, None, option_map, slice_index, slice_index_or}
+use Rattle.std.specs.Char.{is_ascii_digit}
+use Rattle.std.specs.List.{list_all}
+use Rattle.std.specs.Str.{bytes_eq}
+use Rattle.ghcb_cli.specs.declared.command.Command.{Command}
+use Rattle.ghcb_cli.specs.declared.command.Command.TheVariants.{Run, ShowPage, ShowMsr, ShowInfo}
+use Rattle.page_words.specs.Told.{Kept}
+use Rattle.show_text.specs.Digits.{word_of_digits, page_of_digits}
+use Rattle.show_text.specs.Info.{info_text}
+use Rattle.show_text.specs.Msr.{msr_text}
+use Rattle.show_text.specs.Page.{page_text}
+
+abbrev pub are_digits : List ℕ → Bool
+are_digits text = not (length text == 0) && list_all is_ascii_digit text
+
+-- a zero before other digits
+abbrev pub has_leading_zero : List ℕ → Bool
+has_leading_zero text = nat_lt 1 (length text) && (slice_index text 0 == 48)
+
+-- the number that digits write after what was read of it
+abbrev pub value_after : ℕ → List ℕ → ℕ
+value_after n [] = n
+value_after n (digit ∷ digits) = value_after (10 * n + (digit - 48)) digits
+
+-- the number that a text writes, where it is digits alone with no leading zero, and from `least` to `most`
+abbrev pub decimal_of : ℕ → ℕ → List ℕ → Option ℕ
+decimal_of least most text =
+    if are_digits text && not (has_leading_zero text) && nat_le least (value_after 0 text) && nat_le (value_after 0 text) most then Some (value_after 0 text) else None
+
+-- the step limits of a run
+abbrev pub most_steps : ℕ
+most_steps = 2097152
+
+abbrev pub run_of : ℕ → Command
+run_of steps = Run steps
+
+-- what is read of an MSR word, of an exit info and of a page
+abbrev pub show_msr : ℕ → Command
+show_msr word = ShowMsr word
+
+abbrev pub show_info : ℕ → Command
+show_info word = ShowInfo word
+
+abbrev pub show_page : Kept → Command
+show_page page = ShowPage
+
+abbrev pub show_of : List ℕ → List ℕ → Option Command
+show_of kind digits =
+    if bytes_eq kind (codes "page") then option_map show_page (page_of_digits digits)
+    else if bytes_eq kind (codes "msr") then option_map show_msr (word_of_digits digits)
+    else if bytes_eq kind (codes "info") then option_map show_info (word_of_digits digits)
+    else None
+
+-- The grammar: `run IMAGE INPUT STEPS` with names that aren't empty and 1 to 2,097,152 steps, and `show page HEX`,
+-- `show msr HEX` and `show info HEX` with the digits of a page or of a word.
+abbrev pub command_of : List (List ℕ) → Option Command
+command_of (name ∷ image ∷ input ∷ steps ∷ []) =
+    if bytes_eq name (codes "run") && not (length image == 0) && not (length input == 0) then option_map run_of (decimal_of 1 most_steps steps) else None
+command_of (name ∷ kind ∷ digits ∷ []) = if bytes_eq name (codes "show") then show_of kind digits else None
+command_of _ = None
+
+-- a word by its place, or no bytes where there are fewer words
+abbrev pub word_at : List (List ℕ) → ℕ → List ℕ
+word_at words k = slice_index_or words k []
+
+-- the reading that a command asks for, from the digits of a page
+abbrev pub reading_by : List ℕ → Option Command → Option (List ℕ)
+reading_by digits (Some ShowPage) = option_map page_text (page_of_digits digits)
+reading_by digits (Some (ShowMsr word)) = Some (msr_text word)
+reading_by digits (Some (ShowInfo word)) = Some (info_text word)
+reading_by digits (Some (Run steps)) = None
+reading_by digits None = None
+
+-- the reading that the words ask for, if they ask for one
+abbrev pub reading_of : List (List ℕ) → Option (List ℕ)
+reading_of words = reading_by (word_at words 2) (command_of words)

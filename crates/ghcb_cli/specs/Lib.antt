@@ -1,0 +1,17 @@
+pub mod Guest
+pub mod GuestCode
+pub mod Plain
+pub mod Accept
+pub mod BothEnds
+pub mod Seats
+pub mod Standing
+pub mod Ran
+pub mod Outside
+pub mod Memory
+pub mod Command
+pub mod ImageFile
+pub mod Text
+pub mod Reading
+pub mod Program
+pub mod Unready
+pub mod Ending

@@ -1,0 +1,54 @@
+-- What vCPUs over their pages, a host and an order stand for: a plain machine.
+use Rattle.std.specs.Prelude.{◌≡◌, ℕ, ◌+◌, List, [], ◌∷◌, length, Some, None}
+use Rattle.page_words.specs.Told.{Kept, kept_after_all}
+use Rattle.event_table.specs.declared.event.Event.{Event}
+use Rattle.event_table.specs.declared.turn.Turn.{Turn}
+use Rattle.host_events.specs.Devices.{Devices}
+use Rattle.host_events.specs.History.{turns_of}
+use Rattle.host_events.specs.Hosting.{Hosting}
+use Rattle.host_events.specs.Wire.{wire}
+use Rattle.ghcb_cli.specs.declared.seat.Seat.{Seat}
+use Rattle.ghcb_cli.specs.Guest.{Stop, Waits, Ended}
+use Rattle.ghcb_cli.specs.GuestCode.{IsByteOut}
+use Rattle.ghcb_cli.specs.Plain.{Imaged, Machine, next_stop}
+use Rattle.ghcb_cli.specs.Seats.{Is}
+
+-- the event is shown on the page, whatever its other words hold
+pub record Shows (i : ℕ) (event : Event) (page : Kept) : Type 0 where
+  pub before : Kept
+  pub shown : page ≡ kept_after_all before (wire i event)
+  pub full : length before.words ≡ 512
+  pub byte : IsByteOut event
+
+-- the vCPU with its page stops there
+abbrev pub IsAt : ℕ → Seat → Stop → Type 0
+IsAt i seat (Waits event v) = Is seat.vcpu v (Some event) None × Shows i event seat.page
+IsAt i seat (Ended end v) = Is seat.vcpu v None (Some end) × Unit {0}
+
+-- the host tells the devices and the events of the machine, and the order is theirs
+pub record Tells (h : Hosting) (order : List Turn) (m : Machine) : Type 0 where
+  pub devices : h.devices ≡ Some m.devices
+  pub history : h.history ≡ Some m.events
+  pub turns : order ≡ turns_of m.events
+
+-- where the vCPU stops once it got its item
+abbrev pub stop_then : Imaged → ℕ → ℕ → Stop → Devices → Stop
+stop_then image budget i (Waits event v) devices = next_stop image budget i event v devices
+stop_then image budget i (Ended end v) devices = Ended end v
+
+-- each vCPU has its number and stops where the machine's does
+abbrev pub AreAt : ℕ → List Seat → List Stop → Type 0
+AreAt i [] [] = Unit {0}
+AreAt i (seat ∷ seats) (stop ∷ stops) = (seat.vcpu.number ≡ i) × IsAt i seat stop × AreAt (i + 1) seats stops
+AreAt i [] (stop ∷ stops) = ⊥
+AreAt i (seat ∷ seats) [] = ⊥
+
+-- all of it
+pub record Stands (seats : List Seat) (h : Hosting) (order : List Turn) (m : Machine) : Type 0 where
+  pub seated : AreAt 0 seats m.stops
+  pub tells : Tells h order m
+
+-- each vCPU has its number
+abbrev pub AreNumbered : ℕ → List Seat → Type 0
+AreNumbered i [] = Unit {0}
+AreNumbered i (seat ∷ seats) = (seat.vcpu.number ≡ i) × AreNumbered (i + 1) seats

@@ -1,0 +1,3 @@
+// The guest of one form.
+pub mod insn;
+pub mod step;

@@ -1,0 +1,99 @@
+// A file read whole.
+ghost use Rattle.std.specs.Prelude.{◌≡◌, ◌≤◌, ◌<◌, ◌+◌, ◌^◌, IfSome, IfOk, IfErr, take, drop, vec_len};
+ghost use Rattle.ghcb_cli.specs.Outside.{Rose, Piece};
+ghost use Rattle.ghcb_cli.specs.Reading.{IsRead};
+ghost use Rattle.ghcb_cli.specs.declared.read_whole.ReadError.TheVariants as read_error;
+
+use crate::run_io::outside::Files;
+use std::alloc::Global;
+
+/// How many bytes are asked for at once.
+const PIECE: usize = 0x10_0000;
+
+/// A file couldn't be read: its read failed, or memory is wanting.
+#[derive(Clone, Copy, Debug, PartialEq, Eq)]
+pub enum ReadError {
+    Failed,
+    OutOfMemory,
+}
+
+// Makes the buffer longer by a piece, but no longer than so many bytes.
+fn lengthen(buffer: &mut Vec<u8>, most: usize) -> Result<(), ReadError>
+    requires shorter { vec_len buffer.old < most }
+    ensures kept { IfOk result (λ _. take (vec_len buffer.old) buffer.new.items ≡ buffer.old.items) }
+    ensures longer { IfOk result (λ _. vec_len buffer.old < vec_len buffer.new) }
+    ensures within { IfOk result (λ _. vec_len buffer.new ≤ most) }
+    ensures memory { IfErr result (λ e. e ≡ read_error.OutOfMemory) }
+{
+    let more = PIECE.min(most - buffer.len());
+    match buffer.resize(buffer.len() + more, 0) {
+        Ok(()) => Ok(()),
+        Err(_) => Err(ReadError::OutOfMemory),
+    }
+}
+
+// Leaves room in the buffer after what is filled, within so many bytes.
+fn make_room(buffer: &mut Vec<u8>, filled: usize, most: usize) -> Result<(), ReadError>
+    requires filled { filled ≤ vec_len buffer.old }
+    requires within { vec_len buffer.old ≤ most }
+    requires more { filled < most }
+    ensures kept { IfOk result (λ _. take filled buffer.new.items ≡ take filled buffer.old.items) }
+    ensures room { IfOk result (λ _. filled < vec_len buffer.new) }
+    ensures within { IfOk result (λ _. vec_len buffer.new ≤ most) }
+    ensures memory { IfErr result (λ e. e ≡ read_error.OutOfMemory) }
+{
+    if filled < buffer.len() {
+        return Ok(());
+    }
+    lengthen(buffer, most)
+}
+
+// Reads a piece of the file to where the buffer is filled.
+fn read_piece<F: Files>(
+    files: &mut F,
+    name: &str,
+    buffer: &mut Vec<u8>,
+    filled: usize,
+) -> Result<usize, ReadError>
+    requires room { filled < vec_len buffer.old }
+    ensures kept { IfOk result (λ _. take filled buffer.new.items ≡ take filled buffer.old.items) }
+    ensures size { vec_len buffer.new ≡ vec_len buffer.old }
+    ensures bound { IfOk result (λ n. filled + n ≤ vec_len buffer.new) }
+    ensures piece { IfOk result (λ n. IfSome (F.told files.old).folder (λ folder. Piece folder name.now filled n (drop filled buffer.new.items))) }
+    ensures folder { (F.told files.new).folder ≡ (F.told files.old).folder }
+    ensures later { (F.told files.old).faults ≤ (F.told files.new).faults }
+    ensures failed { IfErr result (λ e. e ≡ read_error.Failed) }
+    ensures cause { IfErr result (λ _. Rose (F.told files.old).faults (F.told files.new).faults) }
+{
+    match files.read(name, filled as u64, &mut buffer[filled..]) {
+        Ok(n) => Ok(n),
+        Err(_) => Err(ReadError::Failed),
+    }
+}
+
+/// Reads a file to its end, or to one byte more than the limit: each read but the last takes a byte.
+/// The file is read into one vector.
+pub fn read_whole<F: Files>(
+    alloc: Global,
+    files: &mut F,
+    name: &str,
+    limit: usize,
+) -> Result<Vec<u8>, ReadError>
+    requires limit { limit < 2 ^ 32 }
+    ensures bytes { IfOk result (λ bytes. IfSome (F.told files.old).folder (λ folder. IsRead folder name.now limit bytes.items)) }
+    ensures folder { (F.told files.new).folder ≡ (F.told files.old).folder }
+    ensures later { (F.told files.old).faults ≤ (F.told files.new).faults }
+    ensures cause { IfErr result (λ e. e ≡ read_error.Failed → Rose (F.told files.old).faults (F.told files.new).faults) }
+{
+    let mut buffer = Vec::new(alloc);
+    let mut filled = 0;
+    'reads: loop {
+        make_room(&mut buffer, filled, limit + 1)?;
+        let n = read_piece(files, name, &mut buffer, filled)?;
+        filled += n;
+        if n == 0 || filled > limit {
+            buffer.truncate(filled);
+            return Ok(buffer);
+        }
+    }
+}

@@ -1,0 +1,108 @@
+// A run in rounds.
+ghost use Rattle.std.specs.Prelude.{◌≡◌, ◌<◌, ◌≤◌, length, map, unwrap_or, is_some, OnOk, IfOk};
+ghost use Rattle.std.specs.List.{list_all};
+ghost use Rattle.event_table.specs.declared.end.End.TheVariants.{Spent as spent};
+ghost use Rattle.host_events.specs.Hosting.{IsTelling};
+ghost use Rattle.ghcb_cli.specs.Guest.{next_within};
+ghost use Rattle.ghcb_cli.specs.Plain.{Machine, visits, start_of, first_stops};
+ghost use Rattle.ghcb_cli.specs.Standing.{IsAt, AreAt, AreNumbered, Stands};
+ghost use Rattle.ghcb_cli.specs.Ran.{RanRounds};
+
+use crate::image::Image;
+use crate::seat::{Seat, visit};
+use crate::vcpu::Vcpu;
+use event_table::{End, Finished, Turn};
+use host_events::Host;
+use page_words::Words;
+use std::alloc::{AllocError as OutOfMemory, Global};
+
+// A vCPU over a page of zeros, at its first event or its end.
+fn seat_of(image: &Image, number: u16, budget: u64) -> Seat
+    ensures number { result.vcpu.number ≡ number }
+    ensures at { IsAt number result (next_within budget image.now.code (start_of image.now number)) }
+{
+    let mut vcpu = Vcpu::new(image.vcpus(), image.ram_size(), number);
+    let mut page = Words::new();
+    vcpu.run_to_exit(image.code(), &mut page, budget);
+    Seat { vcpu, page }
+}
+
+// Each vCPU at its first event or its end.
+fn open(alloc: Global, image: &Image, budget: u64) -> Result<Vec<Seat>, OutOfMemory>
+    ensures at { IfOk result (λ seats. AreAt 0 seats.items (first_stops image.now budget 0 image.now.vcpus)) }
+    ensures many { IfOk result (λ seats. length seats.items ≡ image.now.vcpus) }
+{
+    let mut seats = Vec::new(alloc);
+    for number in 0..image.vcpus() {
+        seats.push(seat_of(image, number, budget))?;
+    }
+    Ok(seats)
+}
+
+// One round: each vCPU that waits gets one item, in ascending number.
+fn round<H: Host>(
+    image: &Image,
+    budget: u64,
+    seats: &mut [Seat],
+    host: &mut H,
+    order: &mut Vec<Turn>,
+) -> Result<(), OutOfMemory>
+    requires many { length seats.old ≡ image.now.vcpus }
+    requires numbered { AreNumbered 0 seats.old }
+    requires hosted { (H.told host.old).vcpus ≡ image.now.vcpus }
+    ensures ok { (m : Machine) → Stands seats.old (H.told host.old) order.old.items m
+        → OnOk result (Stands seats.new (H.told host.new) order.new.items (visits image.now budget image.now.vcpus m)) }
+    ensures numbered { AreNumbered 0 seats.new }
+    ensures hosted { (H.told host.new).vcpus ≡ image.now.vcpus }
+{
+    for i in 0..image.vcpus() {
+        let seat = &mut seats[usize::from(i)];
+        visit(image.code(), budget, seat, host, order)?;
+    }
+    Ok(())
+}
+
+fn have_ended(seats: &[Seat]) -> bool
+    ensures { result ≡ list_all (λ s. is_some s.vcpu.end) seats.now }
+{
+    seats.iter().all(|s| s.vcpu.end.is_some())
+}
+
+// What is handed back of the vCPUs.
+fn finish(alloc: Global, seats: &[Seat], order: Vec<Turn>) -> Result<Finished, OutOfMemory>
+    ensures order { IfOk result (λ f. f.order.items ≡ order.items) }
+    ensures steps { IfOk result (λ f. f.steps.items ≡ map (λ s. s.vcpu.guest.steps) seats.now) }
+    ensures ends { IfOk result (λ f. f.ends.items ≡ map (λ s. unwrap_or s.vcpu.end spent) seats.now) }
+{
+    let steps = seats.iter().map(|s| s.vcpu.guest.steps).collect(alloc)?;
+    let ends = seats
+        .iter()
+        .map(|s| s.vcpu.end.unwrap_or(End::Spent))
+        .collect(alloc)?;
+    Ok(Finished { order, steps, ends })
+}
+
+/// Starts the host and runs each vCPU of the image over its page and the host, in rounds, to its end:
+/// `budget` steps each. Refused, the host may have been started and have served pages.
+pub fn run_rounds<H: Host>(
+    alloc: Global,
+    image: &Image,
+    input: Vec<u8>,
+    budget: u64,
+    host: &mut H,
+) -> Result<Finished, OutOfMemory>
+    requires some { 1 ≤ image.now.vcpus }
+    requires few { image.now.vcpus ≤ 8 }
+    ensures ran { IsTelling (H.told host.old) → IfOk result (λ f. RanRounds image.now budget input.items f (H.told host.new)) }
+{
+    host.start(image.vcpus(), input)?;
+    let mut seats = open(alloc, image, budget)?;
+    let mut order = Vec::new(alloc);
+    for done in 0..budget {
+        if have_ended(&seats) {
+            return finish(alloc, &seats, order);
+        }
+        round(image, budget, &mut seats, host, &mut order)?;
+    }
+    finish(alloc, &seats, order)
+}

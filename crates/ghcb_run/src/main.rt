@@ -1,0 +1,26 @@
+//! `ghcb_run run IMAGE INPUT STEPS`: runs a guest over a hypervisor and prints its console.
+#![tactic(auto)]
+
+use ghcb_cli::{DiskFiles, OutSink, ghcb_main};
+use host_events::Hypervisor;
+use std::env;
+use std::process::ExitCode;
+
+/// The words of the command line; none where they can't be had as text.
+fn words(rt: &HostRuntime) -> Result<Vec<String>, std::io::Error> {
+    let words: Vec<String> = env::args(rt)?.skip(1).collect(rt.alloc())?;
+    Ok(words)
+}
+
+fn main(rt: HostRuntime) -> ExitCode {
+    let alloc = rt.alloc();
+    let words = match words(&rt) {
+        Ok(words) => words,
+        Err(_) => Vec::new(alloc),
+    };
+    let mut files = DiskFiles::new(&rt);
+    let mut out = OutSink::new(&rt);
+    let mut host = Hypervisor::new(alloc);
+    let done = ghcb_main(&rt, alloc, &words, &mut files, &mut out, &mut host);
+    ExitCode::from(done.status)
+}
