@@ -43,7 +43,7 @@ impl ExitCode {
 
     /// The event's code.
     pub fn write(&self) -> u64
-        ensures { result ≡ code_of self.now }
+        ensures value { result ≡ code_of self.now }
     {
         match self {
             ExitCode::Rdtsc => 0x6E,

@@ -30,7 +30,7 @@ impl Inject {
     ///
     /// #GP takes the error code that bit 11 marks as valid, or 0, and #UD takes none.
     pub fn read(word: u64) -> Result<Inject, BadInject>
-        ensures { result ≡ request_of word }
+        ensures value { result ≡ request_of word }
     {
         if word >> 31 & 1 == 0 {
             return Err(BadInject::NotValid(word));

@@ -13,14 +13,14 @@ pub struct Bitmap {
 impl Bitmap {
     /// The bitmap of words 126 and 127.
     pub fn from_words(low: u64, high: u64) -> Bitmap
-        ensures { result ≡ record { low = low; high = high } }
+        ensures value { result ≡ record { low = low; high = high } }
     {
         Bitmap { low, high }
     }
 
     /// Words 126 and 127.
     pub fn to_words(&self) -> (u64, u64)
-        ensures { result ≡ (self.now.low, self.now.high) }
+        ensures value { result ≡ (self.now.low, self.now.high) }
     {
         (self.low, self.high)
     }
@@ -28,7 +28,7 @@ impl Bitmap {
     /// Whether a bit is set.
     pub fn has(&self, bit: u8) -> bool
         requires { bit < 128 }
-        ensures { result ≡ has_bit self.now bit }
+        ensures value { result ≡ has_bit self.now bit }
     {
         if bit < 64 {
             self.low >> bit & 1 == 1

@@ -22,7 +22,7 @@ pub fn page_from_bytes(bytes: &[u8]) -> Words
 /// Writes the page's 4,096 bytes, each word with its lowest byte first.
 pub fn page_to_bytes(page: &Words, into: &mut [u8])
     requires { length into.old ≡ 4096 }
-    ensures { into.new ≡ bytes_of page.now }
+    ensures bytes { into.new ≡ bytes_of page.now }
 {
     for number in 0..512 {
         let at = 8 * usize::from(number);

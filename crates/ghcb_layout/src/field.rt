@@ -105,21 +105,21 @@ fn row_of(field: Field) -> (&'static str, u16)
 
 /// The field's name in print.
 pub fn name(field: Field) -> &'static str
-    ensures { result.now ≡ name_of field }
+    ensures value { result.now ≡ name_of field }
 {
     row_of(field).0
 }
 
 /// The offset of the field's first byte in the page.
 pub fn offset(field: Field) -> u16
-    ensures { result ≡ offset_of field }
+    ensures value { result ≡ offset_of field }
 {
     row_of(field).1
 }
 
 /// The word that holds the field.
 pub fn word_of(field: Field) -> Word
-    ensures { result ≡ word_number field }
+    ensures value { result ≡ word_number field }
 {
     Word::new(row_of(field).1 / 8).unwrap()
 }

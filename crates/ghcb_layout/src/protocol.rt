@@ -3,7 +3,7 @@ ghost use Rattle.ghcb_layout.specs.Protocol.{version_in, usage_in, word_with};
 
 /// The protocol version and the usage in word 511, whose bits 15:0 are ignored.
 pub fn protocol_of(word: u64) -> (u16, u32)
-    ensures { result ≡ (version_in word, usage_in word) }
+    ensures value { result ≡ (version_in word, usage_in word) }
 {
     ((word >> 16 & 0xFFFF) as u16, (word >> 32) as u32)
 }

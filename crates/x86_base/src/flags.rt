@@ -32,7 +32,7 @@ impl Flags {
     /// The flags word: bit 1, which always reads 1, and bits 0, 2, 6, 7, 10 and 11 by the six flags
     /// (APM volume 2, section 3.1.6).
     pub fn to_word(&self) -> u64
-        ensures { result ≡ word_of self.now }
+        ensures value { result ≡ word_of self.now }
     {
         2 + masked(self.cf, 1 << 0)
             + masked(self.pf, 1 << 2)
@@ -44,7 +44,7 @@ impl Flags {
 
     /// The six flags of a flags word; its other bits are not looked at.
     pub fn from_word(word: u64) -> Flags
-        ensures { result ≡ flags_of word }
+        ensures value { result ≡ flags_of word }
     {
         Flags {
             cf: is_set(word, 0),

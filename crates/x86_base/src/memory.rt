@@ -29,7 +29,7 @@ fn part(regs: &Regs, reg: Option<Reg>) -> u64
 
 /// The effective address of an operand, modulo 2^64; `next` is the following instruction's address.
 pub fn address(mem: &MemRef, regs: &Regs, next: u64) -> u64
-    ensures { result ≡ address_of mem.now regs.now next }
+    ensures value { result ≡ address_of mem.now regs.now next }
 {
     let base = part(regs, mem.base) as u128;
     let index = part(regs, mem.index) as u128 * mem.scale as u128;

@@ -28,7 +28,7 @@ fn merge(width: Width, old: u64, value: u64) -> u64
 impl Regs {
     /// All 64 bits of a register.
     pub fn get(&self, reg: Reg) -> u64
-        ensures { result ≡ whole reg self.now }
+        ensures value { result ≡ whole reg self.now }
     {
         self.gpr[reg as usize]
     }
@@ -37,7 +37,7 @@ impl Regs {
     /// register, one of 32 bits clears bits 63:32 (APM volume 1, section 3.1.2).
     /// Every other register, RIP and the flags stay.
     pub fn put_sized(&mut self, reg: Reg, width: Width, value: u64)
-        ensures { self.new ≡ put reg width value self.old }
+        ensures change { self.new ≡ put reg width value self.old }
     {
         self.gpr[reg as usize] = merge(width, self.get(reg), value);
     }
@@ -45,7 +45,7 @@ impl Regs {
     /// Writes the low 32 bits of `value` to a register and clears its bits 63:32.
     /// Every other register, RIP and the flags stay.
     pub fn place32(&mut self, reg: Reg, value: u64)
-        ensures { self.new ≡ put reg Width.B32 value self.old }
+        ensures change { self.new ≡ put reg Width.B32 value self.old }
     {
         self.put_sized(reg, Width::B32, value);
     }
@@ -53,7 +53,7 @@ impl Regs {
     /// Writes the low 8 bits of `value` to bits 15:8 of a register, as AH, CH, DH and BH are written.
     /// The register's other bits, every other register, RIP and the flags stay.
     pub fn put_high(&mut self, reg: Reg, value: u64)
-        ensures { self.new ≡ put_high reg value self.old }
+        ensures change { self.new ≡ put_high reg value self.old }
     {
         let old = self.get(reg);
         self.gpr[reg as usize] = old / 0x1_0000 * 0x1_0000 + value % 0x100 * 0x100 + old % 0x100;
@@ -61,7 +61,7 @@ impl Regs {
 
     /// There are sixteen general registers.
     pub fn sixteen(&self)
-        ensures { length self.now.gpr ≡ 16 }
+        ensures length { length self.now.gpr ≡ 16 }
     {}
 }
 
