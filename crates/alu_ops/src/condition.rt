@@ -10,7 +10,7 @@ use x86_base::Flags;
 /// the opposite of the even one before it (APM volume 3, "Jcc").
 pub fn holds(condition: u8, flags: Flags) -> bool
     requires { condition < 16 }
-    ensures { result ≡ holds_of condition flags }
+    ensures value { result ≡ holds_of condition flags }
 {
     let base = match condition / 2 {
         0 => flags.of,

@@ -17,7 +17,7 @@ pub fn alu<const BITS: u32>(op: AluOp, a: u64, b: u64, flags: Flags) -> (u64, Fl
     requires width { IsWidth BITS }
     requires left { a < 2 ^ BITS }
     requires right { b < 2 ^ BITS }
-    ensures { result ≡ alu_of BITS op a b flags }
+    ensures value { result ≡ alu_of BITS op a b flags }
 {
     let carry = if flags.cf { 1 } else { 0 };
     let count = shift_count::<BITS>(b);
@@ -46,7 +46,7 @@ pub fn alu<const BITS: u32>(op: AluOp, a: u64, b: u64, flags: Flags) -> (u64, Fl
 pub fn alu_at(width: Width, op: AluOp, a: u64, b: u64, flags: Flags) -> (u64, Flags)
     requires left { a < 2 ^ bits_of width }
     requires right { b < 2 ^ bits_of width }
-    ensures { result ≡ alu_of (bits_of width) op a b flags }
+    ensures value { result ≡ alu_of (bits_of width) op a b flags }
 {
     table!(call width, B8 => 8, B16 => 16, B32 => 32, B64 => 64; alu(op, a, b, flags))
 }

@@ -6,21 +6,21 @@ ghost use Rattle.x86_base.specs.Spelling.{Spells};
 
 /// Bytes spell one instruction at most, and no spelling is a proper prefix of another.
 pub fn one_spelling()
-    ensures { (a x : List ℕ) (m n : Insn) → Spells a m → Spells (a ++ x) n → (x ≡ []) × (m ≡ n) }
+    ensures law { (a x : List ℕ) (m n : Insn) → Spells a m → Spells (a ++ x) n → (x ≡ []) × (m ≡ n) }
 {}
 
 /// The condition of a Jcc, Setcc or Cmovcc that has a spelling is below 16.
 pub fn conditions()
-    ensures { (bytes : List ℕ) (insn : Insn) → Spells bytes insn → HasCondition insn.op }
+    ensures law { (bytes : List ℕ) (insn : Insn) → Spells bytes insn → HasCondition insn.op }
 {}
 
 /// The source of an instruction that has a spelling is as wide as its destination, but in a Movzx,
 /// Movsx or Movsxd.
 pub fn source_widths()
-    ensures { (bytes : List ℕ) (insn : Insn) → Spells bytes insn → widens insn.op ≡ false → insn.source_width ≡ insn.width }
+    ensures law { (bytes : List ℕ) (insn : Insn) → Spells bytes insn → widens insn.op ≡ false → insn.source_width ≡ insn.width }
 {}
 
 /// The `len` of an instruction is the number of bytes that spell it, and never 0.
 pub fn lengths()
-    ensures { (bytes : List ℕ) (insn : Insn) → Spells bytes insn → (insn.len ≡ length bytes) × (0 < length bytes) }
+    ensures law { (bytes : List ℕ) (insn : Insn) → Spells bytes insn → (insn.len ≡ length bytes) × (0 < length bytes) }
 {}

@@ -6,7 +6,7 @@ use page_words::Words;
 /// The number of sixteen hexadecimal digits, the greatest first and in either case; none where the
 /// digits aren't so.
 pub fn word_from_hex(digits: &[u8]) -> Option<u64>
-    ensures { result ≡ word_of_digits digits.now }
+    ensures value { result ≡ word_of_digits digits.now }
 {
     let mut bytes = [0; 8];
     hex::decode_to_slice(digits, &mut bytes).ok()?;
@@ -16,7 +16,7 @@ pub fn word_from_hex(digits: &[u8]) -> Option<u64>
 /// The page whose 4,096 bytes are given in order by 8,192 hexadecimal digits, in either case; none
 /// where the digits aren't so. Its MSR word is 0.
 pub fn page_from_hex(digits: &[u8]) -> Option<Words>
-    ensures { result ≡ page_of_digits digits.now }
+    ensures value { result ≡ page_of_digits digits.now }
 {
     let mut bytes = [0; 4096];
     hex::decode_to_slice(digits, &mut bytes).ok()?;

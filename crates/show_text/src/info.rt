@@ -6,7 +6,7 @@ use exit_info::{BadInfo, IoInfo};
 
 /// The line that tells which access to a port a word describes.
 pub fn info_text(word: u64) -> Text
-    ensures { result ≡ text_of word }
+    ensures text { result ≡ text_of word }
 {
     let mut text = Text::new();
     match IoInfo::read(word) {

@@ -6,7 +6,7 @@ use msr_protocol::{BadMsr, MsrWord};
 
 /// The line that tells what a word of the GHCB MSR says.
 pub fn msr_text(word: u64) -> Text
-    ensures { result ≡ text_of word }
+    ensures text { result ≡ text_of word }
 {
     let mut text = Text::new();
     match msr_protocol::read(word) {

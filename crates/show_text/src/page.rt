@@ -9,7 +9,7 @@ use page_words::{Word, Words};
 /// The words of a page whose bits are set in its valid bitmap, a line each from word 0 on, and then the
 /// protocol version and the usage.
 pub fn page_text(page: &Words) -> Text
-    ensures { result ≡ text_of page.now }
+    ensures text { result ≡ text_of page.now }
 {
     let mut text = Text::new();
     let bitmap = bitmap_of(page);

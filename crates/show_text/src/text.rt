@@ -21,7 +21,7 @@ impl Model for Text {
 impl Text {
     /// The text's bytes.
     pub fn as_bytes(&self) -> &[u8]
-        ensures { result.now ≡ self.now }
+        ensures value { result.now ≡ self.now }
     {
         self.bytes.as_slice()
     }

@@ -2,4 +2,4 @@ use Rattle.insn_decode.proofs.Whole.{one_spelling}
 use Rattle.insn_decode.proofs.laws.one_spelling.Goals as goal
 
 pub returns : goal.returns
-returns c = one_spelling
+returns c = record { law = one_spelling }

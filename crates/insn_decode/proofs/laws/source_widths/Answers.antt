@@ -2,4 +2,4 @@ use Rattle.insn_decode.proofs.EveryRow.{has_width}
 use Rattle.insn_decode.proofs.laws.source_widths.Goals as goal
 
 pub returns : goal.returns
-returns c = has_width
+returns c = record { law = has_width }
