@@ -1,12 +1,12 @@
 -- A file that is read piece by piece.
-use Rattle.std.proofs.Common.{◌≡◌, ℕ, ◌+◌, ◌-◌, ◌<◌, ◌≤◌, ◌⊎◌, List, ◌++◌, Option, Some, None, length, take, drop, refl, sym, ap, ◌∙◌, arith, subst, inl, inr}
+use Rattle.std.proofs.Common.{◌≡◌, ℕ, ◌+◌, ◌-◌, ◌<◌, ◌≤◌, ◌⊎◌, List, ◌++◌, Option, Some, None, length, take, drop, sym, ap, ◌∙◌, arith, subst, inl, inr}
 use Rattle.std.specs.Prelude.{IfSome}
 use Rattle.std.proofs.Math.Seq.{take-add}
 use Rattle.std.proofs.lemmas.List.{take_all}
 use Rattle.std.proofs.lemmas.List.{length-drop}
 use Rattle.std.proofs.lemmas.Option.{same_Some}
 use Rattle.ghcb_cli.specs.Outside.{Piece}
-use Rattle.ghcb_cli.specs.Reading.{HasRead, IsRead}
+use Rattle.ghcb_cli.specs.Reading.{HasRead, IsRead, IsReading}
 
 -- one piece more
 pub has_read_more : (folder : List ℕ → Option (List ℕ)) (name : List ℕ) (filled n : ℕ) (before after : List ℕ) →
@@ -38,19 +38,17 @@ is_read folder name limit filled n buffer bound room has piece (inr past) =
     let all : filled + n ≡ limit + 1 = omega (arith, bound, past) in
     record { file = piece.bytes; named = piece.named; first = here.0 ∙ ap (λ k. take k piece.bytes) all }
 
--- the same of what a page of files tells
-pub has_read_told : (folder : Option (List ℕ → Option (List ℕ))) (name : List ℕ) (filled n : ℕ) (before after : List ℕ) →
-    IfSome folder (λ f. HasRead f name filled before) → take filled after ≡ take filled before → IfSome folder (λ f. Piece f name filled n (drop filled after)) → IfSome folder (λ f. HasRead f name (filled + n) after)
-has_read_told None name filled n before after has same piece = tt
-has_read_told (Some f) name filled n before after has same piece = has_read_more f name filled n before after has same piece
+-- the same where the folder may be untold
+pub is_reading_more : (folder : Option (List ℕ → Option (List ℕ))) (name : List ℕ) (limit filled n : ℕ) (before after : List ℕ) →
+    IsReading folder name limit filled before → take filled after ≡ take filled before → filled + n ≤ length after → length after ≤ limit + 1 →
+    IfSome folder (λ f. Piece f name filled n (drop filled after)) → IsReading folder name limit (filled + n) after
+is_reading_more None name limit filled n before after reading same fits within piece = record { fits = fits; within = within; has = tt }
+is_reading_more (Some f) name limit filled n before after reading same fits within piece =
+    record { fits = fits; within = within; has = has_read_more f name filled n before after reading.has same piece }
 
 pub is_read_told : (folder : Option (List ℕ → Option (List ℕ))) (name : List ℕ) (limit filled n : ℕ) (buffer : List ℕ) →
-    filled + n ≤ limit + 1 → filled < length buffer → IfSome folder (λ f. HasRead f name (filled + n) buffer) → IfSome folder (λ f. Piece f name filled n (drop filled buffer)) →
+    filled < length buffer → IsReading folder name limit (filled + n) buffer → IfSome folder (λ f. Piece f name filled n (drop filled buffer)) →
     (n ≡ 0) ⊎ (limit < filled + n) → IfSome folder (λ f. IsRead f name limit (take (filled + n) buffer))
-is_read_told None name limit filled n buffer bound room has piece over = tt
-is_read_told (Some f) name limit filled n buffer bound room has piece over = is_read f name limit filled n buffer bound room has piece over
-
--- nothing is read at first
-pub has_read_none : (folder : Option (List ℕ → Option (List ℕ))) (name buffer : List ℕ) → IfSome folder (λ f. HasRead f name 0 buffer)
-has_read_none None name buffer = tt
-has_read_none (Some f) name buffer = λ file named. (refl, omega arith)
+is_read_told None name limit filled n buffer room reading piece over = tt
+is_read_told (Some f) name limit filled n buffer room reading piece over =
+    is_read f name limit filled n buffer (omega (arith, reading.fits, reading.within)) room reading.has piece over

@@ -1,7 +1,7 @@
 // A file read whole.
-ghost use Rattle.std.specs.Prelude.{◌≡◌, ◌≤◌, ◌<◌, ◌+◌, ◌^◌, IfSome, IfOk, IfErr, take, drop, vec_len};
+ghost use Rattle.std.specs.Prelude.{◌≡◌, ◌≤◌, ◌<◌, ◌+◌, ◌^◌, ◌⊎◌, IfSome, IfNone, IfOk, IfErr, take, drop, vec_len};
 ghost use Rattle.ghcb_cli.specs.Outside.{Rose, Piece};
-ghost use Rattle.ghcb_cli.specs.Reading.{IsRead};
+ghost use Rattle.ghcb_cli.specs.Reading.{IsRead, IsReading};
 ghost use Rattle.ghcb_cli.specs.declared.read_whole.ReadError.TheVariants as read_error;
 
 use crate::run_io::outside::Files;
@@ -71,8 +71,37 @@ fn read_piece<F: Files>(
     }
 }
 
-/// Reads a file to its end, or to one byte more than the limit: each read but the last takes a byte.
-/// The file is read into one vector.
+// Reads on in a file. Each turn but the last takes a byte, and says how much of the buffer is filled
+// then; the last says nothing, and leaves in the buffer what was read and no more.
+fn read_turn<F: Files>(
+    files: &mut F,
+    name: &str,
+    buffer: &mut Vec<u8>,
+    filled: usize,
+    limit: usize,
+) -> Result<Option<usize>, ReadError>
+    requires limit { limit < 2 ^ 32 }
+    requires more { filled ≤ limit }
+    requires reading { IsReading (F.told files.old).folder name.now limit filled buffer.old.items }
+    ensures takes { IfOk result (λ next. IfSome next (λ more. (filled < more) × (more ≤ limit))) }
+    ensures reading { IfOk result (λ next. IfSome next (λ more. IsReading (F.told files.old).folder name.now limit more buffer.new.items)) }
+    ensures last { IfOk result (λ next. IfNone next ((vec_len buffer.new ≡ filled) ⊎ (vec_len buffer.new ≡ limit + 1))) }
+    ensures bytes { IfOk result (λ next. IfNone next (IfSome (F.told files.old).folder (λ folder. IsRead folder name.now limit buffer.new.items))) }
+    ensures folder { (F.told files.new).folder ≡ (F.told files.old).folder }
+    ensures later { (F.told files.old).faults ≤ (F.told files.new).faults }
+    ensures cause { IfErr result (λ e. e ≡ read_error.Failed → Rose (F.told files.old).faults (F.told files.new).faults) }
+{
+    make_room(buffer, filled, limit + 1)?;
+    let n = read_piece(files, name, buffer, filled)?;
+    let more = filled + n;
+    if n == 0 || more > limit {
+        buffer.truncate(more);
+        return Ok(None);
+    }
+    Ok(Some(more))
+}
+
+/// Reads a file to its end, or to one byte more than the limit. The file is read into one vector.
 pub fn read_whole<F: Files>(
     alloc: Global,
     files: &mut F,
@@ -87,13 +116,8 @@ pub fn read_whole<F: Files>(
 {
     let mut buffer = Vec::new(alloc);
     let mut filled = 0;
-    'reads: loop {
-        make_room(&mut buffer, filled, limit + 1)?;
-        let n = read_piece(files, name, &mut buffer, filled)?;
-        filled += n;
-        if n == 0 || filled > limit {
-            buffer.truncate(filled);
-            return Ok(buffer);
-        }
+    'reads: while let Some(more) = read_turn(files, name, &mut buffer, filled, limit)? {
+        filled = more;
     }
+    Ok(buffer)
 }

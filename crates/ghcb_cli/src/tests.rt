@@ -1,7 +1,9 @@
-// The whole way of a run, from two files to the console, over files, a sink and a hypervisor in memory.
-use crate::{MemFiles, MemSink, Refused, ghcb_main};
-use event_table::{End, Turn};
+// The whole way of a run, from two files to the console, over files, a sink and a hypervisor in memory,
+// and the words of one event.
+use crate::{MemFiles, MemSink, Refused, Vc, ghcb_main};
+use event_table::{Access, End, Event, Turn};
 use host_events::{Host, Hypervisor};
+use page_words::{Word, Words};
 use std::alloc::Global;
 use std::test::Fail;
 use std::thread::Threads;
@@ -239,4 +241,32 @@ fn readings_are_shown(rt: HostRuntime) -> Result<(), Fail> {
         assert_eq!(rt; says(&rt, alloc, &words, &mut files, &mut out)?, (2, None));
     }
     Ok(())
+}
+
+#[test]
+fn a_byte_put_out_is_shown_by_these_words_alone(rt: HostRuntime) {
+    let mut page = Words::new();
+    let event = Event::One(Access::Out {
+        port: 0x3F8,
+        size: 1,
+        value: 0x48,
+    });
+    Vc::new(0).show(&event, &mut page);
+    for number in 0..512 {
+        let want = match number {
+            63 => 0x48, // RAX
+            114 => 0x7B, // the exit code of port I/O
+            115 => 0x03F8_0210, // the access: port, address and size
+            126 => 0x8000_0000_0000_0000, // the valid bits of words 0 to 63: RAX
+            127 => 0x001C_0000_0000_0000, // those of words 64 to 127: the exit code and both infos
+            511 => 0x1_0000, // version 1, usage 0
+            _ => 0,
+        };
+        assert_eq!(rt;
+            page.word(Word::new(number).unwrap()),
+            want,
+            "word {number}"
+        );
+    }
+    assert_eq!(rt; page.msr_word(), 0x8000_0000);
 }

@@ -1,6 +1,5 @@
 use Rattle.std.proofs.Common.{◌≡◌, ◌≤◌, ◌+◌, ◌-◌}
-use Rattle.std.specs.Prelude.{IfSome, vec_len}
-use Rattle.ghcb_cli.specs.Reading.{HasRead}
+use Rattle.ghcb_cli.specs.Reading.{IsReading}
 use Rattle.ghcb_cli.proofs.read_whole.read_whole.Given as goal
 
 -- the first bytes of the file are in the buffer
@@ -8,10 +7,8 @@ abbrev pub invariant-reads : goal.invariant-reads
 invariant-reads g l = record {
   folder : (g.F.Files.told l.files).folder ≡ (g.F.Files.told l.fn.files).folder;
   later : (g.F.Files.told l.fn.files).faults ≤ (g.F.Files.told l.files).faults;
-  filled : l.filled ≤ vec_len l.buffer;
-  within : vec_len l.buffer ≤ l.limit + 1;
   more : l.filled ≤ l.limit;
-  has : IfSome (g.F.Files.told l.fn.files).folder (λ folder. HasRead folder l.name l.filled l.buffer.items);
+  reading : IsReading (g.F.Files.told l.fn.files).folder l.name l.limit l.filled l.buffer.items;
 }
 
 abbrev pub decreases-reads : goal.decreases-reads
