@@ -1,19 +1,10 @@
 -- Numbers of n bits, with and without a sign (APM volume 1, section 3.2).
 use Rattle.std.specs.Prelude.{ℕ, ℤ, pos, neg_ℤ, ◌-ℤ◌, ◌-◌, ◌%◌, ◌^◌, Bool, not, ◌&&◌, ◌||◌, if◌then◌else◌, ◌==◌, nat_lt, nat_le, int_lt, int_le, count_ones, unsigned_abs, IsTrue}
 use Rattle.std.specs.Int.{int_rem_euclid}
-use Rattle.x86_base.specs.declared.reg.Width.{Width}
-use Rattle.x86_base.specs.declared.reg.Width.TheVariants.{B8, B16, B32, B64}
 
 -- a width
 abbrev pub IsWidth : ℕ → Type 0
 IsWidth n = IsTrue (n == 8 || n == 16 || n == 32 || n == 64)
-
--- the bits of a width
-abbrev pub bits_of : Width → ℕ
-bits_of B8 = 8
-bits_of B16 = 16
-bits_of B32 = 32
-bits_of B64 = 64
 
 -- an n-bit number read with its sign
 abbrev pub signed : ℕ → ℕ → ℤ

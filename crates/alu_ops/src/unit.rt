@@ -1,7 +1,8 @@
 //! The table of operations.
 
 ghost use Rattle.std.specs.Prelude.{◌≡◌, ◌^◌, ◌<◌};
-ghost use Rattle.alu_ops.specs.Number.{IsWidth, bits_of};
+ghost use Rattle.x86_base.specs.Widths.{bits_of};
+ghost use Rattle.alu_ops.specs.Number.{IsWidth};
 ghost use Rattle.alu_ops.specs.Table.{alu_of};
 
 use crate::arithmetic::{add, complement, multiply, subtract};

@@ -1,7 +1,7 @@
 //! A row of a table of operations.
 
 ghost use Rattle.std.specs.Prelude.{◌≡◌, ◌%◌, ◌^◌};
-ghost use Rattle.alu_ops.specs.Number.{bits_of};
+ghost use Rattle.x86_base.specs.Widths.{bits_of};
 
 use alu_ops::{AluOp, alu_at};
 use std::fmt;

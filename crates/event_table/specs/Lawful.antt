@@ -18,3 +18,7 @@ IsLawful (One access) = IsLawfulAccess access
 -- how many accesses an event is
 abbrev pub count_of : Event → ℕ
 count_of (One access) = 1
+
+-- a byte that is put out: the one access that is shown so far
+abbrev pub IsByteOut : Access → Type 0
+IsByteOut (Out port size value) = (port < 2 ^ 16) × (size ≡ 1) × (value < 2 ^ 8)

@@ -1,3 +1,5 @@
+pub mod Events
 pub mod Lawful
-pub mod Plan
 pub mod Opening
+pub mod Places
+pub mod Plan

@@ -1,61 +1,44 @@
 -- What an instruction does. Each instruction's meaning is one plan; the private step, the access that
 -- is asked, and the placing of its results are readings of it.
-use Rattle.std.specs.Prelude.{ℕ, ◌+◌, ◌%◌, ◌^◌, List, [], ◌∷◌, map, drop, slice_index}
+use Rattle.std.specs.Prelude.{ℕ, ◌+◌, ◌*◌, ◌%◌, ◌^◌, Bool, if◌then◌else◌, List, [], ◌∷◌, length, map, Option, None, Some}
+use Rattle.x86_base.specs.declared.insn.Operand.{Operand}
+use Rattle.x86_base.specs.declared.insn.Operand.TheVariants.{Absent, Whole, High, Memory, Imm}
+use Rattle.x86_base.specs.declared.memory.MemRef.{MemRef}
 use Rattle.x86_base.specs.declared.reg.Reg.{Reg}
-use Rattle.x86_base.specs.declared.reg.Reg.TheVariants.{Rax, Rdx}
 use Rattle.x86_base.specs.declared.reg.Width.{Width}
-use Rattle.x86_base.specs.declared.reg.Width.TheVariants.{B8, B16, B32, B64}
-use Rattle.x86_base.specs.declared.regs.Regs.{Regs}
-use Rattle.x86_base.specs.Registers.{whole, put}
+use Rattle.x86_base.specs.declared.reg.Width.TheVariants.{B64}
+use Rattle.x86_base.specs.Widths.{low}
 use Rattle.event_table.specs.declared.access.Access.{Access}
-use Rattle.event_table.specs.declared.access.Access.TheVariants.{Out}
 use Rattle.event_table.specs.declared.access.Values.{Values}
 use Rattle.event_table.specs.declared.end.End.{End}
-use Rattle.event_table.specs.declared.end.End.TheVariants.{Halted, Undecoded, Fault}
-
--- A vCPU: its registers (APM volume 1, chapter 3), and the steps that it has counted.
-pub record Vcpu : Type 0 where
-  pub regs : Regs
-  pub steps : ℕ
-
--- Where a value comes from or goes to.
-pub data Place : Type 0 where
-  -- a constant
-  Fixed : (value : ℕ) → Place
-  -- a register at a width
-  Low : (reg : Reg) → (width : Width) → Place
-
--- the low bits of a register
-abbrev pub low : Width → ℕ → ℕ
-low B8 value = value % 2 ^ 8
-low B16 value = value % 2 ^ 16
-low B32 value = value % 2 ^ 32
-low B64 value = value
-
-abbrev pub read : Vcpu → Place → ℕ
-read v (Fixed value) = value
-read v (Low reg width) = low width (whole reg v.regs)
-
-abbrev pub write : Place → ℕ → Vcpu → Vcpu
-write (Fixed _) value v = v
-write (Low reg width) value v = record v { regs = put reg width value v.regs }
-
--- the values go to the places in order; where a value is missing it is 0
-abbrev pub write_all : List Place → List ℕ → Vcpu → Vcpu
-write_all [] values v = v
-write_all (place ∷ places) values v = write_all places (drop 1 values) (write place (slice_index values 0) v)
+use Rattle.event_table.specs.declared.end.End.TheVariants.{Undecoded, BadAddress, Fault}
+use Rattle.event_table.specs.declared.places.Place.{Place}
+use Rattle.event_table.specs.declared.places.Place.TheVariants as place
+use Rattle.event_table.specs.Places.{Vcpu, Value, number, read, write_all, address_in, is_readable, is_writable}
 
 -- One change of a vCPU: what it writes depends on the vCPU by the places that it reads alone.
 pub record Change : Type 0 where
+  -- the places that are read, and what is computed of them for the targets
   pub reads : List Place
-  pub values : List ℕ → List ℕ
+  pub values : List Value → List Value
   pub targets : List Place
+  -- places that are written before these, with values that were looked at
+  pub moved : List Place
+  pub moves : List Value
   -- where it goes on
   pub rip : ℕ
+  -- the direction flag, where it is set or cleared
+  pub df : Option Bool
 
--- the vCPU after a change, which is one step
+abbrev pub directed : Option Bool → Vcpu → Vcpu
+directed None v = v
+directed (Some df) v = record v { regs = record v.regs { flags = record v.regs.flags { df = df } } }
+
+-- the vCPU after a change
 abbrev pub apply : Change → Vcpu → Vcpu
-apply c v = write_all c.targets (c.values (map (read v) c.reads)) (record { regs = record v.regs { rip = c.rip }; steps = v.steps + 1 })
+apply c v =
+    let gone = directed c.df (write_all c.targets (c.values (map (read v) c.reads)) (write_all c.moved c.moves v)) in
+    record gone { regs = record gone.regs { rip = c.rip } }
 
 -- What a value that is looked at goes into: an address, the way that is taken, or what the host is shown.
 pub data Use : Type 0 where
@@ -71,17 +54,73 @@ pub data Plan : Type 0 where
   -- the instruction is over
   Next : Plan
   Then : (change : Change) → (rest : Plan) → Plan
-  Looks : (kind : Use) → (places : List Place) → (next : List ℕ → Plan) → Plan
+  Looks : (kind : Use) → (places : List Place) → (next : List Value → Plan) → Plan
   -- an access is asked: what comes of its results, and of an exception with its vector and error code
   Asks : (access : Access) → (done : Values → Plan) → (raised : ℕ → ℕ → Plan) → Plan
 
--- it goes on at the following instruction, and writes the targets
-abbrev pub writes : ℕ → List Place → List Place → (List ℕ → List ℕ) → Change
-writes next targets reads values = record { reads = reads; values = values; targets = targets; rip = next }
+-- What a plan may depend on besides what it looks at: where the instruction and the following one
+-- stand, the sizes of RAM and of the code, and the direction flag.
+pub record Setting : Type 0 where
+  pub rip : ℕ
+  pub next : ℕ
+  pub ram : ℕ
+  pub code : ℕ
+  pub df : Bool
 
--- nothing changes but where it goes on
-abbrev pub onward : ℕ → Change
-onward next = writes next [] [] (λ _. [])
+-- at a vCPU, for an instruction of so many bytes
+abbrev pub setting : Vcpu → ℕ → Setting
+setting v len = record { rip = v.regs.rip; next = (v.regs.rip + len) % 2 ^ 64; ram = length v.ram.bytes; code = v.ram.code; df = v.regs.flags.df }
+
+-- one change, and the instruction is over
+abbrev pub goes : Change → Plan
+goes change = Then change Next
+
+-- it goes on at an address, and nothing else changes
+abbrev pub jumps : ℕ → Change
+jumps rip = record { reads = []; values = λ _. []; targets = []; moved = []; moves = []; rip = rip; df = None }
+
+abbrev pub onward : Setting → Change
+onward s = jumps s.next
+
+-- it goes on at the following instruction, and writes the targets
+abbrev pub writes : Setting → List Place → List Place → (List Value → List Value) → Change
+writes s targets reads values = record (onward s) { targets = targets; reads = reads; values = values }
+
+-- the plan, where a place can be read, or written
+abbrev pub if_readable : Setting → Place → Plan → Plan
+if_readable s at plan = if is_readable s.ram at then plan else Ends (BadAddress (address_in at))
+
+abbrev pub if_writable : Setting → Place → Plan → Plan
+if_writable s at plan = if is_writable s.ram s.code at then plan else Ends (BadAddress (address_in at))
+
+abbrev pub part : Option Reg → Place
+part None = place.Fixed 0
+part (Some reg) = place.Low reg B64
+
+-- the registers of an operand's address: its base and its index
+abbrev pub parts_of : Operand → List Place
+parts_of (Memory mem) = part mem.base ∷ part mem.index ∷ []
+parts_of _ = []
+
+-- the address, by what these hold (APM volume 1, section 2.2.3)
+abbrev pub sum_of : MemRef → ℕ → List Value → ℕ
+sum_of mem next parts = (number parts 0 + number parts 1 * mem.scale + mem.disp + (if mem.from_rip then next else 0)) % 2 ^ 64
+
+abbrev pub sum_at : Operand → ℕ → List Value → ℕ
+sum_at (Memory mem) next parts = sum_of mem next parts
+sum_at _ next parts = 0
+
+-- where an operand lies, by what the registers of its address hold
+abbrev pub place_at : ℕ → Width → Operand → List Value → Place
+place_at next width Absent parts = place.Fixed 0
+place_at next width (Whole reg) parts = place.Low reg width
+place_at next width (High reg) parts = place.High reg
+place_at next width (Memory mem) parts = place.Bytes (sum_of mem next parts) width
+place_at next width (Imm value) parts = place.Fixed (low width value)
+
+-- the plan at an operand's place
+abbrev pub at_operand : Setting → Width → Operand → (Place → Plan) → Plan
+at_operand s width operand plan = Looks Address (parts_of operand) (λ parts. plan (place_at s.next width operand parts))
 
 -- What an instruction comes to at a vCPU.
 pub data Stepped : Type 0 where
@@ -89,29 +128,25 @@ pub data Stepped : Type 0 where
   Exits : (access : Access) → (vcpu : Vcpu) → Stepped
   Stops : (end : End) → (vcpu : Vcpu) → Stepped
 
--- the steps of an end: HLT counts its own
-abbrev pub counted : End → ℕ → ℕ
-counted Halted steps = steps + 1
-counted _ steps = steps
-
-abbrev pub stopped : End → Vcpu → Stepped
-stopped end v = Stops end (record v { steps = counted end v.steps })
-
 -- the private step, or the access that is asked
 abbrev pub stepped : Vcpu → Plan → Stepped
-stepped v (Ends end) = stopped end v
+stepped v (Ends end) = Stops end v
 stepped v Next = Moved v
 stepped v (Then change rest) = stepped (apply change v) rest
 stepped v (Looks kind places next) = stepped v (next (map (read v) places))
 stepped v (Asks access done raised) = Exits access v
 
+-- the access that is asked, if one is
+abbrev pub asked : Vcpu → Plan → Option Access
+asked v (Looks kind places next) = asked v (next (map (read v) places))
+asked v (Asks access done raised) = Some access
+asked v _ = None
+
 -- how the instruction goes on once its access is answered, where `chosen` takes one of the two ways; one that asks nothing isn't answered
 abbrev pub resumed : ((Values → Plan) → (ℕ → ℕ → Plan) → Plan) → Vcpu → Plan → Stepped
 resumed chosen v (Looks kind places next) = resumed chosen v (next (map (read v) places))
 resumed chosen v (Asks access done raised) = stepped v (chosen done raised)
-resumed chosen v (Ends end) = stopped Undecoded v
-resumed chosen v Next = stopped Undecoded v
-resumed chosen v (Then change rest) = stopped Undecoded v
+resumed chosen v _ = Stops Undecoded v
 
 -- with these results
 abbrev pub placed : Values → Vcpu → Plan → Stepped
@@ -120,9 +155,3 @@ placed values v plan = resumed (λ done raised. done values) v plan
 -- An exception ends the vCPU where the image names no handler for it.
 abbrev pub unhandled : ℕ → ℕ → Plan
 unhandled vector code = Ends (Fault vector)
-
--- OUT DX, AL: the host sees the port and the byte, and nothing comes back (APM volume 3, OUT).
-abbrev pub out_byte : ℕ → Plan
-out_byte next =
-    Looks Named (Low Rdx B16 ∷ Low Rax B8 ∷ [])
-    (λ seen. Asks (Out (slice_index seen 0) 1 (slice_index seen 1)) (λ values. Then (onward next) Next) unhandled)

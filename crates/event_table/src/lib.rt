@@ -6,12 +6,16 @@ mod access;
 mod bytes;
 mod end;
 mod event;
+mod exits;
 mod outcome;
+mod places;
 mod turn;
 
 pub use access::{Access, Values};
 pub use bytes::Bytes;
 pub use end::{End, Reason};
 pub use event::Event;
+pub use exits::{comes_later, named, place};
 pub use outcome::{Outcome, Reply};
+pub use places::{Place, find, following, load, size, store};
 pub use turn::{Finished, Turn};

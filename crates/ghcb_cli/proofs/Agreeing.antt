@@ -14,7 +14,7 @@ use Rattle.host_events.specs.Devices.{Devices, answer, no_values}
 use Rattle.host_events.specs.Wire.{wire, ghcb_of, out_info, byte_out}
 use Rattle.host_events.specs.Served.{bears, call_by, call_of, reply, served, served_by}
 use Rattle.ghcb_cli.specs.Accept.{results, outcome_on}
-use Rattle.ghcb_cli.specs.GuestCode.{IsByteOut}
+use Rattle.ghcb_cli.specs.Guest.{IsByteEvent}
 use Rattle.ghcb_cli.specs.BothEnds.{outcome_of, answer_to, BothEnds}
 
 -- the call, where the words are known
@@ -32,7 +32,7 @@ call_at i port byte k fits small msr value code info none low high protocol =
     ∙ ap (λ b. if b && bears i (byte_out port byte) k then Some (byte_out port byte) else None) second
     ∙ ap (λ b. if b then Some (byte_out port byte) else None) borne
 
-called : (i : ℕ) (e : Event) (k : Kept) → IsByteOut e → length k.words ≡ 512 → call_of i (kept_after_all k (wire i e)) ≡ Some e
+called : (i : ℕ) (e : Event) (k : Kept) → IsByteEvent e → length k.words ≡ 512 → call_of i (kept_after_all k (wire i e)) ≡ Some e
 called i (One (Out port size value)) k lawful full =
     let one : size ≡ 1 = lawful.1 in
     let event = byte_out port value in

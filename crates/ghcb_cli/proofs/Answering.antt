@@ -2,6 +2,7 @@
 use Rattle.std.proofs.Common.{◌≡◌, ℕ, ◌⊎◌, inl, inr, List, Option, Some, None, Result, Ok, Err, refl, sym, ap, ◌∙◌, subst}
 use Rattle.std.specs.Prelude.{IfSome, option_map}
 use Rattle.std.proofs.lemmas.Option.{same_Some}
+use Rattle.image_file.specs.Image.{Contents}
 use Rattle.event_table.specs.declared.turn.Finished.{Finished}
 use Rattle.host_events.specs.Hosting.{Hosting, IsTelling}
 use Rattle.ghcb_cli.specs.declared.command.Command.{Command}
@@ -15,15 +16,14 @@ use Rattle.ghcb_cli.specs.Unready.{Blames}
 use Rattle.ghcb_cli.specs.declared.top.Unready.{Unready}
 use Rattle.ghcb_cli.specs.declared.top.Unready.TheVariants as unready
 use Rattle.ghcb_cli.specs.Outside.{Paper, Rose, Puts, wrote}
-use Rattle.ghcb_cli.specs.Plain.{Imaged}
 use Rattle.ghcb_cli.specs.Program.{Folder, Said, image_in, input_in, said_with, said_by, said_over, said, says_usage, says_refused, says_output, output_of, Runs, RunsFiles, IsToEnd, IsText, IsRefusal}
 use Rattle.ghcb_cli.specs.Text.{usage, line_of}
 
-refusal_with : (j : Option (List ℕ)) (steps : ℕ) (r : Refused) (i : Result Imaged Refused) → (i ≡ Err r) ⊎ ((made : Imaged) × (i ≡ Ok made) × (option_map input_in j ≡ Some (Err r))) → said_with j steps i ≡ Some (says_refused r)
-refusal_with j steps r i (inl refused) = ap (λ (x : Result Imaged Refused). said_with j steps x) refused
+refusal_with : (j : Option (List ℕ)) (steps : ℕ) (r : Refused) (i : Result Contents Refused) → (i ≡ Err r) ⊎ ((made : Contents) × (i ≡ Ok made) × (option_map input_in j ≡ Some (Err r))) → said_with j steps i ≡ Some (says_refused r)
+refusal_with j steps r i (inl refused) = ap (λ (x : Result Contents Refused). said_with j steps x) refused
 refusal_with None steps r i (inr second) = let wrong : None ≡ Some (Err r) = second.2 in cc
 refusal_with (Some bytes) steps r i (inr second) =
-    ap (λ (x : Result Imaged Refused). said_with (Some bytes) steps x) second.1
+    ap (λ (x : Result Contents Refused). said_with (Some bytes) steps x) second.1
     ∙ ap (λ (x : Result (List ℕ) Refused). Some (said_over second.0 steps x)) (same_Some _ _ second.2)
 
 refusal_said : (i j : Option (List ℕ)) (digits : List ℕ) (steps : ℕ) (r : Refused) → IsRefusal r (option_map image_in i) (option_map input_in j) → said_by i j digits (Some (Run steps)) ≡ Some (says_refused r)
@@ -32,11 +32,11 @@ refusal_said None j digits steps r (inr second) = let wrong : None ≡ Some (Ok 
 refusal_said (Some bytes) j digits steps r (inl first) = refusal_with j steps r (image_in bytes) (inl (same_Some _ _ first))
 refusal_said (Some bytes) j digits steps r (inr second) = refusal_with j steps r (image_in bytes) (inr (second.0, same_Some _ _ second.1, second.2))
 
-output_said : (i j : Option (List ℕ)) (digits : List ℕ) (steps : ℕ) (image : Imaged) (input : List ℕ) → option_map image_in i ≡ Some (Ok image) → option_map input_in j ≡ Some (Ok input) → said_by i j digits (Some (Run steps)) ≡ Some (says_output (output_of image steps input))
+output_said : (i j : Option (List ℕ)) (digits : List ℕ) (steps : ℕ) (image : Contents) (input : List ℕ) → option_map image_in i ≡ Some (Ok image) → option_map input_in j ≡ Some (Ok input) → said_by i j digits (Some (Run steps)) ≡ Some (says_output (output_of image steps input))
 output_said None j digits steps image input first second = let wrong : None ≡ Some (Ok image) = first in cc
 output_said (Some bytes) None digits steps image input first second = let wrong : None ≡ Some (Ok input) = second in cc
 output_said (Some bytes) (Some more) digits steps image input first second =
-    ap (λ (x : Result Imaged Refused). said_with (Some more) steps x) (same_Some _ _ first)
+    ap (λ (x : Result Contents Refused). said_with (Some more) steps x) (same_Some _ _ first)
     ∙ ap (λ (x : Result (List ℕ) Refused). Some (said_over image steps x)) (same_Some _ _ second)
 
 said_run : (folder : Folder) (words : List (List ℕ)) (steps : ℕ) → command_of words ≡ Some (Run steps) → said folder words ≡ said_by (folder (word_at words 1)) (folder (word_at words 2)) (word_at words 2) (Some (Run steps))
@@ -49,7 +49,7 @@ first_refused None words steps r command refusal = tt
 first_refused (Some f) words steps r command refusal = said_run f words steps command ∙ refusal_said (f (word_at words 1)) (f (word_at words 2)) (word_at words 2) steps r refusal
 
 -- the output is
-pub said_output : (folder : Option Folder) (words : List (List ℕ)) (steps : ℕ) (image : Imaged) (input : List ℕ) → command_of words ≡ Some (Run steps) →
+pub said_output : (folder : Option Folder) (words : List (List ℕ)) (steps : ℕ) (image : Contents) (input : List ℕ) → command_of words ≡ Some (Run steps) →
     IfSome folder (λ f. option_map image_in (f (word_at words 1)) ≡ Some (Ok image)) → IfSome folder (λ f. option_map input_in (f (word_at words 2)) ≡ Some (Ok input)) →
     IfSome folder (λ f. said f words ≡ Some (says_output (output_of image steps input)))
 said_output None words steps image input command first second = tt
@@ -59,7 +59,7 @@ to_end : (folder : Option Folder) (words : List (List ℕ)) (s : Said) → IfSom
 to_end None words s is = tt
 to_end (Some f) words s is = (s, is, refl)
 
-runs_files : (folder : Option Folder) (words : List (List ℕ)) (steps : ℕ) (image : Imaged) (input : List ℕ) (f : Finished) (h : Hosting) (old new : Option (List ℕ)) → command_of words ≡ Some (Run steps) →
+runs_files : (folder : Option Folder) (words : List (List ℕ)) (steps : ℕ) (image : Contents) (input : List ℕ) (f : Finished) (h : Hosting) (old new : Option (List ℕ)) → command_of words ≡ Some (Run steps) →
     IfSome folder (λ f. option_map image_in (f (word_at words 1)) ≡ Some (Ok image)) → IfSome folder (λ f. option_map input_in (f (word_at words 2)) ≡ Some (Ok input)) →
     Runs image input steps f h old new → IfSome folder (λ folder. RunsFiles folder words f h old new)
 runs_files None words steps image input f h old new command first second runs = tt
@@ -89,7 +89,7 @@ text_is folder words steps h text s command is same = record {
 }
 
 -- how the run of the files ends
-pub ran_ends : (words : List (List ℕ)) (steps : ℕ) (image : Imaged) (input : List ℕ) (old new : Told) (e : Ending) → command_of words ≡ Some (Run steps) →
+pub ran_ends : (words : List (List ℕ)) (steps : ℕ) (image : Contents) (input : List ℕ) (old new : Told) (e : Ending) → command_of words ≡ Some (Run steps) →
     IfSome old.files.folder (λ f. option_map image_in (f (word_at words 1)) ≡ Some (Ok image)) → IfSome old.files.folder (λ f. option_map input_in (f (word_at words 2)) ≡ Some (Ok input)) →
     RunEndsAs image input steps old.host new.host old.out new.out e → EndsAs words old new e
 ran_ends words steps image input old new (ending.Done f) command first second ends = record {

@@ -1,57 +1,79 @@
 -- How a guest goes on.
-use Rattle.std.proofs.Common.{◌≡◌, ℕ, suc, zero, ◌+◌, ◌-◌, ◌<◌, List, Option, Some, None, refl, sym, ap, ◌∙◌, arith, sub-one}
-use Rattle.event_table.specs.declared.access.Access.{Access}
+use Rattle.std.proofs.Common.{◌≡◌, ℕ, suc, zero, ◌-◌, ◌<◌, Bool, true, false, Result, Ok, Err, None, map, refl, sym, ap, ◌∙◌, arith, sub-one}
+use Rattle.std.specs.Prelude.{if◌then◌else◌}
+use Rattle.x86_base.specs.declared.insn.Insn.{Insn}
+use Rattle.x86_base.specs.declared.op.Op.{Op}
+use Rattle.x86_base.specs.declared.op.Op.TheVariants as op
 use Rattle.event_table.specs.declared.access.Values.{Values}
-use Rattle.event_table.specs.Plan.{Vcpu, Stepped, Moved, Exits, Stops, stepped, placed}
-use Rattle.ghcb_cli.specs.declared.guest.insn.Insn.{Insn}
-use Rattle.ghcb_cli.specs.declared.guest.insn.Insn.TheVariants.{MovEdx, MovAl, OutDxAl, Hlt}
-use Rattle.ghcb_cli.specs.Guest.{insn_of, plan_of, plan_at, step_of, stop_after, next_of}
+use Rattle.event_table.specs.declared.end.End.{End}
+use Rattle.event_table.specs.declared.end.End.TheVariants.{Undecoded}
+use Rattle.event_table.specs.Events.{comes_later, event_by, exit_of}
+use Rattle.event_table.specs.Places.{Vcpu, read}
+use Rattle.event_table.specs.Plan.{Plan, Ends, Next, Then, Looks, Asks, Setting, Stepped, Moved, Exits, Stops, asked, placed, setting, stepped}
+use Rattle.guest_interp.specs.Stepping.{Counted, insn_at, exit_by, plan_by, results_of, step_of, stop_after, next_of}
+use Rattle.guest_interp.specs.Table.{private_of}
+use Rattle.ghcb_cli.specs.Guest.{stepped_by}
 
-next_at : (left : ℕ) (code : List ℕ) (v : Vcpu) → 0 < left → next_of left code v ≡ stop_after (step_of code v) (λ gone. next_of (left - 1) code gone)
-next_at zero code v some = absurd (omega arith)
-next_at (suc left) code v some = rw sub-one refl
+next_at : (left : ℕ) (c : Counted) → 0 < left → next_of left c ≡ stop_after c.steps (step_of c.vcpu) (λ gone. next_of (left - 1) gone)
+next_at zero c some = absurd (omega arith)
+next_at (suc left) c some = rw sub-one refl
 
 -- where a vCPU stops, by its first instruction
-pub next_by : (left : ℕ) (code : List ℕ) (v : Vcpu) (s : Stepped) → 0 < left → s ≡ step_of code v → next_of left code v ≡ stop_after s (λ gone. next_of (left - 1) code gone)
-next_by left code v s some is = next_at left code v some ∙ ap (λ (x : Stepped). stop_after x (λ gone. next_of (left - 1) code gone)) (sym is)
+pub next_by : (left : ℕ) (c : Counted) (s : Stepped) → 0 < left → s ≡ step_of c.vcpu → next_of left c ≡ stop_after c.steps s (λ gone. next_of (left - 1) gone)
+next_by left c s some is = next_at left c some ∙ ap (λ (x : Stepped). stop_after c.steps x (λ gone. next_of (left - 1) gone)) (sym is)
 
-goes_by : (o : Option Insn) (rip : ℕ) (v gone : Vcpu) → Moved gone ≡ stepped v (plan_of rip o) → gone.steps ≡ v.steps + 1
-goes_by None rip v gone goes = cc
-goes_by (Some (MovEdx value)) rip v gone goes = cc
-goes_by (Some (MovAl value)) rip v gone goes = cc
-goes_by (Some OutDxAl) rip v gone goes = cc
-goes_by (Some Hlt) rip v gone goes = cc
-
--- an instruction that moves on counts one step
-pub goes_one : (code : List ℕ) (v gone : Vcpu) → Moved gone ≡ step_of code v → gone.steps ≡ v.steps + 1
+-- where there is no instruction it ends
+pub none_there : (v : Vcpu) (end : End) → Err end ≡ insn_at v.ram v.regs.rip → Stops end v ≡ step_of v
 unfolding step_of
-goes_one code v gone goes = goes_by (insn_of code v.regs.rip) v.regs.rip v gone goes
+none_there v end is = ap (λ (r : Result Insn End). stepped v (plan_by r v)) is
 
-exits_by : (o : Option Insn) (rip : ℕ) (v w : Vcpu) (access : Access) → Exits access w ≡ stepped v (plan_of rip o) → w ≡ v
-exits_by None rip v w access exits = cc
-exits_by (Some (MovEdx value)) rip v w access exits = cc
-exits_by (Some (MovAl value)) rip v w access exits = cc
-exits_by (Some OutDxAl) rip v w access exits = cc
-exits_by (Some Hlt) rip v w access exits = cc
-
--- an instruction that asks has changed nothing
-pub exits_here : (code : List ℕ) (v w : Vcpu) (access : Access) → Exits access w ≡ step_of code v → w ≡ v
+-- an instruction there is what it does
+pub one_there : (v : Vcpu) (i : Insn) → Ok i ≡ insn_at v.ram v.regs.rip → stepped_by i v ≡ step_of v
 unfolding step_of
-exits_here code v w access exits = exits_by (insn_of code v.regs.rip) v.regs.rip v w access exits
+one_there v i is = ap (λ (r : Result Insn End). stepped v (plan_by r v)) is
 
--- it moved on by one step, or stopped
-abbrev pub IsFurther : Vcpu → Stepped → Type 0
-IsFurther v (Moved gone) = gone.steps ≡ v.steps + 1
-IsFurther v (Exits access w) = ⊥
-IsFurther v (Stops end last) = Unit {0}
+-- one of those that exit for an access that comes later ends it
+pub later_ends : (v : Vcpu) (i : Insn) → comes_later i ≡ true → Stops Undecoded v ≡ stepped_by i v
+later_ends v i later =
+    sym (ap (λ b. stepped v (if b then Ends Undecoded else event_by i.op i (setting v i.len) (private_of i (setting v i.len)))) later)
 
-placed_by : (o : Option Insn) (rip : ℕ) (v : Vcpu) (values : Values) → IsFurther v (placed values v (plan_of rip o))
-placed_by None rip v values = tt
-placed_by (Some (MovEdx value)) rip v values = tt
-placed_by (Some (MovAl value)) rip v values = tt
-placed_by (Some OutDxAl) rip v values = refl
-placed_by (Some Hlt) rip v values = tt
+-- where no instruction asks an access, none is answered
+pub none_answered : (v : Vcpu) (values : Values) (end : End) → Err end ≡ insn_at v.ram v.regs.rip → Stops Undecoded v ≡ results_of values v
+unfolding results_of
+none_answered v values end is = ap (λ (r : Result Insn End). placed values v (exit_by r v)) is
 
--- an answered event adds a step or ends the vCPU
-pub placed_further : (code : List ℕ) (v : Vcpu) (values : Values) → IsFurther v (placed values v (plan_at code v))
-placed_further code v values = placed_by (insn_of code v.regs.rip) v.regs.rip v values
+-- an instruction there goes on with the results of its access
+pub one_answered : (v : Vcpu) (values : Values) (i : Insn) → Ok i ≡ insn_at v.ram v.regs.rip → placed values v (exit_of i (setting v i.len)) ≡ results_of values v
+unfolding results_of
+one_answered v values i is = ap (λ (r : Result Insn End). placed values v (exit_by r v)) is
+
+placed_none : (v : Vcpu) (values : Values) (p : Plan) → asked v p ≡ None → Stops Undecoded v ≡ placed values v p
+placed_none v values (Ends end) none = refl
+placed_none v values Next none = refl
+placed_none v values (Then change rest) none = refl
+placed_none v values (Looks kind places next) none = placed_none v values (next (map (read v) places)) none
+placed_none v values (Asks access done raised) none = cc
+
+-- one that asks nothing isn't answered
+pub unasked_answered : (v : Vcpu) (values : Values) (i : Insn) → Ok i ≡ insn_at v.ram v.regs.rip → asked v (exit_of i (setting v i.len)) ≡ None → Stops Undecoded v ≡ results_of values v
+unasked_answered v values i is none = placed_none v values (exit_of i (setting v i.len)) none ∙ one_answered v values i is
+
+-- it moved on, or ended
+abbrev pub IsOver : Stepped → Type 0
+IsOver (Moved v) = Unit {0}
+IsOver (Exits access v) = ⊥
+IsOver (Stops end v) = Unit {0}
+
+exit_over : (later : Bool) (o : Op) (i : Insn) (s : Setting) (v : Vcpu) (values : Values) → IsOver (placed values v (if later then Ends Undecoded else event_by o i s (Ends Undecoded)))
+exit_over true o i s v values = tt
+exit_over false op.Out i s v values = tt
+exit_over false _ i s v values = tt
+
+answer_over : (r : Result Insn End) (v : Vcpu) (values : Values) → IsOver (placed values v (exit_by r v))
+answer_over (Ok i) v values = exit_over (comes_later i) i.op i (setting v i.len) v values
+answer_over (Err end) v values = tt
+
+-- an answered access is over: nothing more is asked
+pub results_over : (v : Vcpu) (values : Values) → IsOver (results_of values v)
+unfolding results_of
+results_over v values = answer_over (insn_at v.ram v.regs.rip) v values

@@ -1,11 +1,12 @@
 -- What a file is, from what was read of it.
-use Rattle.std.proofs.Common.{◌≡◌, ℕ, ◌+◌, ◌<◌, ◌≤◌, Bool, true, false, List, Option, Some, None, Ok, Err, length, take, sym, ap, ◌∙◌, arith}
+use Rattle.std.proofs.Common.{◌≡◌, ℕ, ◌+◌, ◌<◌, ◌≤◌, Bool, true, false, List, Option, Some, None, Result, Ok, Err, length, take, sym, ap, ◌∙◌, arith}
 use Rattle.std.specs.Prelude.{IfSome, nat_lt, option_map, if◌then◌else◌, min}
 use Rattle.std.proofs.lemmas.List.{length-take, take_all}
 use Rattle.std.proofs.lemmas.Grind.{common_steps}
-use Rattle.ghcb_cli.specs.declared.text.Refused.TheVariants.{ImageLimit, InputLimit}
-use Rattle.ghcb_cli.specs.ImageFile.{image_of}
-use Rattle.ghcb_cli.specs.Plain.{Imaged}
+use Rattle.ghcb_cli.specs.declared.text.Refused.{Refused}
+use Rattle.ghcb_cli.specs.declared.text.Refused.TheVariants.{ImageLimit, NotYet, InputLimit}
+use Rattle.image_file.specs.declared.fault.ImageFault.{ImageFault}
+use Rattle.image_file.specs.Image.{Contents, image_of}
 use Rattle.ghcb_cli.specs.Program.{Folder, most_image, most_input, image_by, image_in, input_in}
 use Rattle.ghcb_cli.specs.Reading.{IsRead}
 
@@ -40,10 +41,22 @@ pub image_refused : (folder : Option Folder) (name bytes : List ℕ) → IfSome 
 image_refused None name bytes read over = tt
 image_refused (Some f) name bytes read over = image_over f name bytes read over
 
-pub image_read : (folder : Option Folder) (name bytes : List ℕ) (image : Option Imaged) → IfSome folder (λ f. IsRead f name most_image bytes) → length bytes ≤ most_image → image ≡ image_of bytes →
-    IfSome folder (λ f. option_map image_in (f name) ≡ Some (image_by image))
-image_read None name bytes image read within is = tt
-image_read (Some f) name bytes image read within is = image_under f name bytes read within ∙ ap (λ (o : Option Imaged). Some (image_by o)) (sym is)
+-- an image of more than one vCPU
+pub many_refused : (image : Contents) → 1 < image.header.vcpus → image_by (Ok image) ≡ Err NotYet
+many_refused image many =
+    let more : nat_lt 1 image.header.vcpus ≡ true = grind (arith, common_steps) in
+    ap (λ (b : Bool). if b then Err NotYet else Ok image) more
+
+-- an image of one
+pub one_taken : (image : Contents) → image.header.vcpus ≤ 1 → image_by (Ok image) ≡ Ok image
+one_taken image one =
+    let no_more : nat_lt 1 image.header.vcpus ≡ false = grind (arith, common_steps) in
+    ap (λ (b : Bool). if b then Err NotYet else Ok image) no_more
+
+pub image_read : (folder : Option Folder) (name bytes : List ℕ) (image : Result Contents ImageFault) (made : Result Contents Refused) → IfSome folder (λ f. IsRead f name most_image bytes) →
+    length bytes ≤ most_image → image_of bytes ≡ image → image_by image ≡ made → IfSome folder (λ f. option_map image_in (f name) ≡ Some made)
+image_read None name bytes image made read within is by = tt
+image_read (Some f) name bytes image made read within is by = image_under f name bytes read within ∙ ap (λ (r : Result Contents ImageFault). Some (image_by r)) is ∙ ap Some by
 
 input_over : (folder : Folder) (name bytes : List ℕ) → IsRead folder name most_input bytes → most_input < length bytes → option_map input_in (folder name) ≡ Some (Err InputLimit)
 input_over folder name bytes read over =

@@ -2,96 +2,95 @@
 use Rattle.std.proofs.Common.{◌≡◌, ℕ, suc, zero, ◌+◌, ◌-◌, ◌<◌, ◌≤◌, Bool, true, List, [], ◌∷◌, ◌++◌, length, Option, Some, None, refl, sym, ap, ◌∙◌, arith, subst, eq-eqb}
 use Rattle.std.specs.Prelude.{slice_get, slice_set, option_and_then, if◌then◌else◌}
 use Rattle.std.proofs.lemmas.List.{map-append, length-set}
+use Rattle.image_file.specs.Image.{Contents}
 use Rattle.event_table.specs.declared.event.Event.{Event}
 use Rattle.event_table.specs.declared.event.Event.TheVariants.{One}
 use Rattle.event_table.specs.declared.turn.Turn.{Turn}
 use Rattle.event_table.specs.Lawful.{count_of}
-use Rattle.event_table.specs.Plan.{Vcpu, Stepped, Moved, Exits, Stops}
+use Rattle.event_table.specs.Plan.{Stepped, Moved, Exits, Stops}
+use Rattle.guest_interp.specs.Stepping.{Counted, at_count, results_of, step_of, Standstill, Waits, Ended, stop_after, stop_answered, next_of, next_within}
 use Rattle.host_events.specs.declared.bus.Answer.{Answer}
 use Rattle.host_events.specs.declared.bus.Answer.TheVariants.{Done}
 use Rattle.host_events.specs.declared.history.Entry.{Entry}
 use Rattle.host_events.specs.Devices.{Devices, answer}
 use Rattle.host_events.specs.History.{turn_of, turns_of, after_event, after_history}
-use Rattle.ghcb_cli.specs.Guest.{plan_at, step_of, Stop, Waits, Ended, stop_after, next_of, next_within}
-use Rattle.ghcb_cli.specs.Plain.{Imaged, Machine, start_of, first_stops, machine_at_start, answered, next_stop, next_devices, single, single_where, item, along, all_ended, where_ended, visit_where, visit, visits, rounds, rounds_machine, RoundsRun}
-use Rattle.ghcb_cli.proofs.Going.{goes_one, exits_here, IsFurther, placed_further}
+use Rattle.ghcb_cli.proofs.Going.{IsOver, results_over}
+use Rattle.ghcb_cli.specs.Plain.{Machine, start_of, first_stops, machine_at_start, answered, next_stop, next_devices, single, single_where, item, along, all_ended, where_ended, visit_where, visit, visits, rounds, rounds_machine, RoundsRun}
 
-then_same : (image : Imaged) (budget : ℕ) (xs ys : List Turn) (o : Option Machine) →
+then_same : (image : Contents) (budget : ℕ) (xs ys : List Turn) (o : Option Machine) →
     ((next : Machine) → along image budget (xs ++ ys) next ≡ option_and_then (λ last. along image budget ys last) (along image budget xs next)) →
     option_and_then (λ next. along image budget (xs ++ ys) next) o ≡ option_and_then (λ last. along image budget ys last) (option_and_then (λ next. along image budget xs next) o)
 then_same image budget xs ys None same = refl
 then_same image budget xs ys (Some next) same = same next
 
-along-append : (image : Imaged) (budget : ℕ) (xs ys : List Turn) (m : Machine) →
+along-append : (image : Contents) (budget : ℕ) (xs ys : List Turn) (m : Machine) →
     along image budget (xs ++ ys) m ≡ option_and_then (λ next. along image budget ys next) (along image budget xs m)
 along-append image budget [] ys m = refl
 along-append image budget (x ∷ xs) ys m = then_same image budget xs ys (item image budget m x) (λ next. along-append image budget xs ys next)
 
 -- it waits with a count from low on and below the budget
-abbrev pub IsGood : ℕ → ℕ → Stop → Type 0
+abbrev pub IsGood : ℕ → ℕ → Standstill → Type 0
 IsGood low budget (Waits event v) = (low ≤ v.steps) × (v.steps < budget)
 IsGood low budget (Ended end v) = Unit {0}
 
-good_by : (code : List ℕ) (low budget : ℕ) (s : Stepped) (v : Vcpu) (more : Vcpu → Stop) → s ≡ step_of code v → low ≤ v.steps → v.steps < budget →
-    ((gone : Vcpu) → Moved gone ≡ step_of code v → IsGood low budget (more gone)) → IsGood low budget (stop_after s more)
-good_by code low budget (Moved gone) v more is from under goes = goes gone is
-good_by code low budget (Exits access w) v more is from under goes = let same : w ≡ v = exits_here code v w access is in subst (λ (x : Vcpu). (low ≤ x.steps) × (x.steps < budget)) (sym same) (from, under)
-good_by code low budget (Stops end last) v more is from under goes = tt
+good_by : (low budget steps : ℕ) (s : Stepped) (more : Counted → Standstill) → low ≤ steps → steps < budget →
+    ((gone : Counted) → gone.steps ≡ steps + 1 → IsGood low budget (more gone)) → IsGood low budget (stop_after steps s more)
+good_by low budget steps (Moved v) more from under goes = goes (at_count v (steps + 1)) refl
+good_by low budget steps (Exits access v) more from under goes = (from, under)
+good_by low budget steps (Stops end v) more from under goes = tt
 
-good_next : (code : List ℕ) (low budget left : ℕ) (v : Vcpu) → low ≤ v.steps → left ≡ budget - v.steps → IsGood low budget (next_of left code v)
-good_next code low budget zero v from is = tt
-good_next code low budget (suc left) v from is =
-    good_by code low budget (step_of code v) v (λ gone. next_of left code gone) refl from (omega arith)
-    (λ gone goes.
-    let one : gone.steps ≡ v.steps + 1 = goes_one code v gone goes in
-    good_next code low budget left gone (omega arith) (omega arith))
+good_next : (low budget left : ℕ) (c : Counted) → low ≤ c.steps → left ≡ budget - c.steps → IsGood low budget (next_of left c)
+good_next low budget zero c from is = tt
+good_next low budget (suc left) c from is =
+    good_by low budget c.steps (step_of c.vcpu) (λ gone. next_of left gone) from (omega arith)
+    (λ gone one. good_next low budget left gone (omega (arith, one)) (omega (arith, one)))
 
 -- every vCPU is good; the first so many have one more step
-abbrev pub AllGood : ℕ → ℕ → ℕ → List Stop → Type 0
+abbrev pub AllGood : ℕ → ℕ → ℕ → List Standstill → Type 0
 AllGood low budget k [] = Unit {0}
 AllGood low budget zero (s ∷ ss) = IsGood low budget s × AllGood low budget zero ss
 AllGood low budget (suc k) (s ∷ ss) = IsGood (suc low) budget s × AllGood low budget k ss
 
-good_set : (low budget k : ℕ) (ss : List Stop) (s : Stop) → AllGood low budget k ss → IsGood (suc low) budget s → AllGood low budget (suc k) (slice_set ss k s)
+good_set : (low budget k : ℕ) (ss : List Standstill) (s : Standstill) → AllGood low budget k ss → IsGood (suc low) budget s → AllGood low budget (suc k) (slice_set ss k s)
 good_set low budget k [] s all good = tt
 good_set low budget zero (x ∷ xs) s all good = (good, all.1)
 good_set low budget (suc k) (x ∷ xs) s all good = (all.0, good_set low budget k xs s all.1 good)
 
 -- nothing where it does not wait
-good_same : (low budget k : ℕ) (ss : List Stop) → AllGood low budget k ss → ((e : Event) (v : Vcpu) → slice_get ss k ≡ Some (Waits e v) → ⊥) → AllGood low budget (suc k) ss
+good_same : (low budget k : ℕ) (ss : List Standstill) → AllGood low budget k ss → ((e : Event) (v : Counted) → slice_get ss k ≡ Some (Waits e v) → ⊥) → AllGood low budget (suc k) ss
 good_same low budget k [] all not = tt
 good_same low budget zero (Waits e v ∷ xs) all not = absurd (not e v refl)
 good_same low budget zero (Ended end v ∷ xs) all not = (tt, all.1)
 good_same low budget (suc k) (x ∷ xs) all not = (all.0, good_same low budget k xs all.1 not)
 
-good_get : (low budget k : ℕ) (ss : List Stop) (s : Stop) → AllGood low budget k ss → slice_get ss k ≡ Some s → IsGood low budget s
+good_get : (low budget k : ℕ) (ss : List Standstill) (s : Standstill) → AllGood low budget k ss → slice_get ss k ≡ Some s → IsGood low budget s
 good_get low budget k [] s all at = cc
 good_get low budget zero (x ∷ xs) s all at = let same : x ≡ s = cc in subst (λ y. IsGood low budget y) same all.0
 good_get low budget (suc k) (x ∷ xs) s all at = good_get low budget k xs s all.1 at
 
-good_round : (low budget : ℕ) (ss : List Stop) → AllGood low budget (length ss) ss → AllGood (suc low) budget zero ss
+good_round : (low budget : ℕ) (ss : List Standstill) → AllGood low budget (length ss) ss → AllGood (suc low) budget zero ss
 good_round low budget [] all = tt
 good_round low budget (x ∷ xs) all = (all.0, good_round low budget xs all.1)
 
-good_further : (code : List ℕ) (low budget : ℕ) (v : Vcpu) (s : Stepped) → IsFurther v s → low ≤ v.steps → v.steps < budget → IsGood (suc low) budget (stop_after s (λ gone. next_within budget code gone))
-good_further code low budget v (Moved gone) further from under = good_next code (suc low) budget (budget - gone.steps) gone (omega (arith, further)) refl
-good_further code low budget v (Exits access w) further from under = absurd further
-good_further code low budget v (Stops end last) further from under = tt
+good_further : (low budget steps : ℕ) (s : Stepped) → IsOver s → low ≤ steps → steps < budget → IsGood (suc low) budget (stop_answered steps s (λ gone. next_within budget gone))
+good_further low budget steps (Moved v) over from under = good_next (suc low) budget (budget - (steps + 1)) (at_count v (steps + 1)) (omega arith) refl
+good_further low budget steps (Exits access v) over from under = absurd over
+good_further low budget steps (Stops end v) over from under = tt
 
-good_answered : (image : Imaged) (low budget : ℕ) (v : Vcpu) (a : Answer) → low ≤ v.steps → v.steps < budget →
-    IsGood (suc low) budget (stop_after (answered a v (plan_at image.code v)) (λ gone. next_within budget image.code gone))
-good_answered image low budget v (Done values) from under = good_further image.code low budget v _ (placed_further image.code v values) from under
+good_answered : (low budget : ℕ) (c : Counted) (a : Answer) → low ≤ c.steps → c.steps < budget →
+    IsGood (suc low) budget (stop_answered c.steps (answered a c) (λ gone. next_within budget gone))
+good_answered low budget c (Done values) from under = good_further low budget c.steps (results_of values c.vcpu) (results_over c.vcpu values) from under
 
 -- an answered event adds a step to its vCPU or ends it
-good_stop : (image : Imaged) (low budget i : ℕ) (e : Event) (v : Vcpu) (d : Devices) → low ≤ v.steps → v.steps < budget → IsGood (suc low) budget (next_stop image budget i e v d)
-good_stop image low budget i (One access) v d from under = good_answered image low budget v (answer d i access) from under
+good_stop : (image : Contents) (low budget i : ℕ) (e : Event) (v : Counted) (d : Devices) → low ≤ v.steps → v.steps < budget → IsGood (suc low) budget (next_stop image budget i e v d)
+good_stop image low budget i (One access) v d from under = good_answered low budget v (answer d i access) from under
 
 -- The events so far are an order that leads here, the devices are what they leave, and every vCPU is good.
-pub record Reached (image : Imaged) (budget : ℕ) (start m : Machine) (low k : ℕ) : Type 0 where
+pub record Reached (image : Contents) (budget : ℕ) (start m : Machine) (low k : ℕ) : Type 0 where
   pub leads : along image budget (turns_of m.events) start ≡ Some m
   pub legal : m.devices ≡ after_history start.devices m.events
   pub good : AllGood low budget k m.stops
-  pub size : length m.stops ≡ image.vcpus
+  pub size : length m.stops ≡ image.header.vcpus
 
 after_history-append : (d : Devices) (xs : List Entry) (y : Entry) → after_history d (xs ++ y ∷ []) ≡ after_event (after_history d xs) y.vcpu y.event
 after_history-append d [] y = refl
@@ -100,7 +99,7 @@ after_history-append d (x ∷ xs) y = after_history-append (after_event d x.vcpu
 next_devices_event : (i : ℕ) (e : Event) (d : Devices) → next_devices i e d ≡ after_event d i e
 next_devices_event i (One access) d = refl
 
-reached_where : (image : Imaged) (budget k : ℕ) (start m : Machine) (low : ℕ) (o : Option Stop) → slice_get m.stops k ≡ o → Reached image budget start m low k → Reached image budget start (visit_where image budget k o m) low (suc k)
+reached_where : (image : Contents) (budget k : ℕ) (start m : Machine) (low : ℕ) (o : Option Standstill) → slice_get m.stops k ≡ o → Reached image budget start m low k → Reached image budget start (visit_where image budget k o m) low (suc k)
 reached_where image budget k start m low None at r = record {
   leads = r.leads;
   legal = r.legal;
@@ -118,7 +117,7 @@ reached_where image budget k start m low (Some (Waits e v)) at r =
     let entry : Entry = record { vcpu = k; event = e } in
     let after : Machine = single image budget k e v m in
     let one : item image budget m (turn_of entry) ≡ Some after =
-    ap (λ (o : Option Stop). single_where image budget (turn_of entry) o m) at
+    ap (λ (o : Option Standstill). single_where image budget (turn_of entry) o m) at
     ∙ ap (λ (t : Bool). if t then Some after else None) (eq-eqb (count_of e) (count_of e) refl) in
     record {
       leads =
@@ -134,39 +133,39 @@ reached_where image budget k start m low (Some (Waits e v)) at r =
       size = length-set m.stops k _ ∙ r.size;
     }
 
-reached_visits : (image : Imaged) (budget k : ℕ) (start m : Machine) (low : ℕ) → Reached image budget start m low zero → Reached image budget start (visits image budget k m) low k
+reached_visits : (image : Contents) (budget k : ℕ) (start m : Machine) (low : ℕ) → Reached image budget start m low zero → Reached image budget start (visits image budget k m) low k
 reached_visits image budget zero start m low r = r
 reached_visits image budget (suc k) start m low r = reached_where image budget k start (visits image budget k m) low _ refl (reached_visits image budget k start m low r)
 
-reached_rounds : (image : Imaged) (budget n : ℕ) (start : Machine) → Reached image budget start start 0 zero → Reached image budget start (rounds image budget n start) n zero
+reached_rounds : (image : Contents) (budget n : ℕ) (start : Machine) → Reached image budget start start 0 zero → Reached image budget start (rounds image budget n start) n zero
 reached_rounds image budget zero start r = r
 reached_rounds image budget (suc n) start r =
-    let after = reached_visits image budget image.vcpus start (rounds image budget n start) n (reached_rounds image budget n start r) in
+    let after = reached_visits image budget image.header.vcpus start (rounds image budget n start) n (reached_rounds image budget n start r) in
     record {
       leads = after.leads;
       legal = after.legal;
-      good = good_round n budget _ (subst (λ k. AllGood n budget k (visits image budget image.vcpus (rounds image budget n start)).stops) (sym after.size) after.good);
+      good = good_round n budget _ (subst (λ k. AllGood n budget k (visits image budget image.header.vcpus (rounds image budget n start)).stops) (sym after.size) after.good);
       size = after.size;
     }
 
-ended_good : (budget : ℕ) (ss : List Stop) → AllGood budget budget zero ss → all_ended ss ≡ true
+ended_good : (budget : ℕ) (ss : List Standstill) → AllGood budget budget zero ss → all_ended ss ≡ true
 ended_good budget [] all = refl
 ended_good budget (Waits e v ∷ ss) all = absurd (omega (arith, all.0.0, all.0.1))
 ended_good budget (Ended end v ∷ ss) all = ended_good budget ss all.1
 
-length-first_stops : (image : Imaged) (budget i n : ℕ) → length (first_stops image budget i n) ≡ n
+length-first_stops : (image : Contents) (budget i n : ℕ) → length (first_stops image budget i n) ≡ n
 length-first_stops image budget i zero = refl
 length-first_stops image budget i (suc n) = let rest : length (first_stops image budget (i + 1) n) ≡ n = length-first_stops image budget (i + 1) n in omega arith
 
-good_first : (image : Imaged) (budget i n : ℕ) → AllGood 0 budget zero (first_stops image budget i n)
+good_first : (image : Contents) (budget i n : ℕ) → AllGood 0 budget zero (first_stops image budget i n)
 good_first image budget i zero = tt
-good_first image budget i (suc n) = (good_next image.code 0 budget (budget - 0) (start_of image i) (omega arith) refl, good_first image budget (i + 1) n)
+good_first image budget i (suc n) = (good_next 0 budget (budget - 0) (start_of image i) (omega arith) refl, good_first image budget (i + 1) n)
 
-reached_start : (image : Imaged) (budget : ℕ) (input : List ℕ) → let start = machine_at_start image budget input in Reached image budget start start 0 zero
-reached_start image budget input = record { leads = refl; legal = refl; good = good_first image budget 0 image.vcpus; size = length-first_stops image budget 0 image.vcpus }
+reached_start : (image : Contents) (budget : ℕ) (input : List ℕ) → let start = machine_at_start image budget input in Reached image budget start start 0 zero
+reached_start image budget input = record { leads = refl; legal = refl; good = good_first image budget 0 image.header.vcpus; size = length-first_stops image budget 0 image.header.vcpus }
 
 -- after as many rounds as the budget all have ended
-pub rounds_end : (image : Imaged) (budget : ℕ) (input : List ℕ) → all_ended (rounds_machine image budget input).stops ≡ true
+pub rounds_end : (image : Contents) (budget : ℕ) (input : List ℕ) → all_ended (rounds_machine image budget input).stops ≡ true
 rounds_end image budget input = ended_good budget _ (reached_rounds image budget budget _ (reached_start image budget input)).good
 
 -- the order of rounds has a plain run, and its history is legal
@@ -179,35 +178,35 @@ rounds_plain image budget input =
       reached.legal,
     )
 
-idle_where : (image : Imaged) (budget k : ℕ) (m : Machine) (o : Option Stop) → ((e : Event) (v : Vcpu) → o ≡ Some (Waits e v) → ⊥) → visit_where image budget k o m ≡ m
+idle_where : (image : Contents) (budget k : ℕ) (m : Machine) (o : Option Standstill) → ((e : Event) (v : Counted) → o ≡ Some (Waits e v) → ⊥) → visit_where image budget k o m ≡ m
 idle_where image budget k m None not = refl
 idle_where image budget k m (Some (Waits e v)) not = absurd (not e v refl)
 idle_where image budget k m (Some (Ended end v)) not = refl
 
-ended_get : (ss : List Stop) (k : ℕ) (e : Event) (v : Vcpu) → all_ended ss ≡ true → slice_get ss k ≡ Some (Waits e v) → ⊥
+ended_get : (ss : List Standstill) (k : ℕ) (e : Event) (v : Counted) → all_ended ss ≡ true → slice_get ss k ≡ Some (Waits e v) → ⊥
 ended_get [] k e v ended waits = cc
 ended_get (Waits d w ∷ ss) k e v ended waits = cc
 ended_get (Ended end w ∷ ss) zero e v ended waits = cc
 ended_get (Ended end w ∷ ss) (suc k) e v ended waits = ended_get ss k e v ended waits
 
-idle_visits : (image : Imaged) (budget k : ℕ) (m : Machine) → all_ended m.stops ≡ true → visits image budget k m ≡ m
+idle_visits : (image : Contents) (budget k : ℕ) (m : Machine) → all_ended m.stops ≡ true → visits image budget k m ≡ m
 idle_visits image budget zero m ended = refl
 idle_visits image budget (suc k) m ended =
     ap (λ (n : Machine). visit image budget k n) (idle_visits image budget k m ended)
     ∙ idle_where image budget k m _ (λ e v waits. ended_get m.stops k e v ended waits)
 
-idle_more : (image : Imaged) (budget n j : ℕ) (m : Machine) → all_ended (rounds image budget n m).stops ≡ true → rounds image budget (n + j) m ≡ rounds image budget n m
+idle_more : (image : Contents) (budget n j : ℕ) (m : Machine) → all_ended (rounds image budget n m).stops ≡ true → rounds image budget (n + j) m ≡ rounds image budget n m
 idle_more image budget n zero m ended =
     let none : n + 0 ≡ n = omega arith in
     ap (λ k. rounds image budget k m) none
 idle_more image budget n (suc j) m ended =
     let one : n + suc j ≡ suc (n + j) = omega arith in
     ap (λ k. rounds image budget k m) one
-    ∙ ap (λ (x : Machine). visits image budget image.vcpus x) (idle_more image budget n j m ended)
-    ∙ idle_visits image budget image.vcpus (rounds image budget n m) ended
+    ∙ ap (λ (x : Machine). visits image budget image.header.vcpus x) (idle_more image budget n j m ended)
+    ∙ idle_visits image budget image.header.vcpus (rounds image budget n m) ended
 
 -- once all have ended, further rounds change nothing
-pub rounds_idle : (image : Imaged) (budget n more : ℕ) (m : Machine) → n ≤ more → all_ended (rounds image budget n m).stops ≡ true → rounds image budget more m ≡ rounds image budget n m
+pub rounds_idle : (image : Contents) (budget n more : ℕ) (m : Machine) → n ≤ more → all_ended (rounds image budget n m).stops ≡ true → rounds image budget more m ≡ rounds image budget n m
 rounds_idle image budget n more m fewer ended =
     let all : more ≡ n + (more - n) = omega arith in
     ap (λ k. rounds image budget k m) all ∙ idle_more image budget n (more - n) m ended

@@ -6,13 +6,13 @@ use Rattle.event_table.specs.declared.end.End.{End}
 use Rattle.event_table.specs.declared.end.End.TheVariants.{Spent}
 use Rattle.event_table.specs.declared.turn.Turn.{Turn}
 use Rattle.event_table.specs.declared.turn.Finished.{Finished}
-use Rattle.event_table.specs.Plan.{Vcpu}
+use Rattle.image_file.specs.Image.{Contents}
+use Rattle.guest_interp.specs.Stepping.{Counted, Standstill, Waits, Ended, next_within}
 use Rattle.host_events.specs.Devices.{opening}
 use Rattle.host_events.specs.History.{turns_of, IsLegal}
 use Rattle.host_events.specs.Hosting.{Hosting, started, IsTelling}
 use Rattle.ghcb_cli.specs.declared.seat.Seat.{Seat}
-use Rattle.ghcb_cli.specs.Guest.{Stop, Waits, Ended, next_within}
-use Rattle.ghcb_cli.specs.Plain.{Imaged, Machine, start_of, first_stops, machine_at_start, all_ended, visit_where, visit, rounds, rounds_machine, rounds_order, plain_run, steps_of, ends_of}
+use Rattle.ghcb_cli.specs.Plain.{Machine, start_of, first_stops, machine_at_start, all_ended, visit_where, visit, rounds, rounds_machine, rounds_order, plain_run, steps_of, ends_of}
 use Rattle.ghcb_cli.specs.Standing.{IsAt, AreAt, AreNumbered, Tells, Stands, stop_then}
 use Rattle.ghcb_cli.specs.Ran.{RanRounds}
 use Rattle.ghcb_cli.proofs.PlainRounds.{rounds_plain, rounds_idle}
@@ -27,15 +27,15 @@ numbered_set i k [] seat all is = tt
 numbered_set i zero (s ∷ ss) seat all is = let none : i + 0 ≡ i = omega arith in (is ∙ none, all.1)
 numbered_set i (suc k) (s ∷ ss) seat all is = let one : i + suc k ≡ i + 1 + k = omega arith in (all.0, numbered_set (i + 1) k ss seat all.1 (is ∙ one))
 
-pub numbered_at : (i : ℕ) (seats : List Seat) (stops : List Stop) → AreAt i seats stops → AreNumbered i seats
+pub numbered_at : (i : ℕ) (seats : List Seat) (stops : List Standstill) → AreAt i seats stops → AreNumbered i seats
 numbered_at i [] [] all = tt
 numbered_at i (s ∷ ss) (x ∷ xs) all = (all.0, numbered_at (i + 1) ss xs all.2)
 numbered_at i [] (x ∷ xs) all = absurd all
 numbered_at i (s ∷ ss) [] all = absurd all
 
 -- the stop of one seat
-at_get : (i k : ℕ) (seats : List Seat) (stops : List Stop) (seat : Seat) → AreAt i seats stops → slice_get seats k ≡ Some seat →
-    (stop : Stop) × (slice_get stops k ≡ Some stop) × IsAt seat.vcpu.number seat stop
+at_get : (i k : ℕ) (seats : List Seat) (stops : List Standstill) (seat : Seat) → AreAt i seats stops → slice_get seats k ≡ Some seat →
+    (stop : Standstill) × (slice_get stops k ≡ Some stop) × IsAt seat.vcpu.number seat stop
 at_get i k [] [] seat all at = cc
 at_get i k [] (x ∷ xs) seat all at = absurd all
 at_get i k (s ∷ ss) [] seat all at = absurd all
@@ -45,7 +45,7 @@ at_get i zero (s ∷ ss) (x ∷ xs) seat all at =
 at_get i (suc k) (s ∷ ss) (x ∷ xs) seat all at = at_get (i + 1) k ss xs seat all.2 at
 
 -- one seat goes on with its stop
-at_set : (i k : ℕ) (seats : List Seat) (stops : List Stop) (seat : Seat) (stop : Stop) → AreAt i seats stops → seat.vcpu.number ≡ i + k → IsAt seat.vcpu.number seat stop → AreAt i (slice_set seats k seat) (slice_set stops k stop)
+at_set : (i k : ℕ) (seats : List Seat) (stops : List Standstill) (seat : Seat) (stop : Standstill) → AreAt i seats stops → seat.vcpu.number ≡ i + k → IsAt seat.vcpu.number seat stop → AreAt i (slice_set seats k seat) (slice_set stops k stop)
 at_set i k [] [] seat stop all is at = tt
 at_set i k [] (x ∷ xs) seat stop all is at = absurd all
 at_set i k (s ∷ ss) [] seat stop all is at = absurd all
@@ -56,26 +56,26 @@ at_set i (suc k) (s ∷ ss) (x ∷ xs) seat stop all is at =
     let one : i + suc k ≡ i + 1 + k = omega arith in
     (all.0, all.1, at_set (i + 1) k ss xs seat stop all.2 (is ∙ one) at)
 
-set_same : (stops : List Stop) (k : ℕ) (stop : Stop) → slice_get stops k ≡ Some stop → slice_set stops k stop ≡ stops
+set_same : (stops : List Standstill) (k : ℕ) (stop : Standstill) → slice_get stops k ≡ Some stop → slice_set stops k stop ≡ stops
 set_same [] k stop at = refl
 set_same (x ∷ xs) zero stop at = let same : stop ≡ x = cc in ap (λ y. y ∷ xs) same
 set_same (x ∷ xs) (suc k) stop at = ap (λ ys. x ∷ ys) (set_same xs k stop at)
 
 -- what a visit leaves of the stops
-visit_stops : (image : Imaged) (budget k : ℕ) (m : Machine) (stop : Stop) → slice_get m.stops k ≡ Some stop → (visit_where image budget k (Some stop) m).stops ≡ slice_set m.stops k (stop_then image budget k stop m.devices)
+visit_stops : (image : Contents) (budget k : ℕ) (m : Machine) (stop : Standstill) → slice_get m.stops k ≡ Some stop → (visit_where image budget k (Some stop) m).stops ≡ slice_set m.stops k (stop_then image budget k stop m.devices)
 visit_stops image budget k m (Waits e v) at = refl
 visit_stops image budget k m (Ended end v) at = sym (set_same m.stops k (Ended end v) at)
 
 -- one vCPU further in a round
-pub stands_visit : (image : Imaged) (budget k : ℕ) (m : Machine) (seats : List Seat) (seat next : Seat) (h0 h1 : Hosting) (order0 order1 : List Turn) →
+pub stands_visit : (image : Contents) (budget k : ℕ) (m : Machine) (seats : List Seat) (seat next : Seat) (h0 h1 : Hosting) (order0 order1 : List Turn) →
     Stands seats h0 order0 m → slice_get seats k ≡ Some seat → seat.vcpu.number ≡ k → next.vcpu.number ≡ seat.vcpu.number →
-    ((stop : Stop) → IsAt seat.vcpu.number seat stop → Tells h0 order0 m → IsAt seat.vcpu.number next (stop_then image budget seat.vcpu.number stop m.devices) × Tells h1 order1 (visit_where image budget seat.vcpu.number (Some stop) m)) →
+    ((stop : Standstill) → IsAt seat.vcpu.number seat stop → Tells h0 order0 m → IsAt seat.vcpu.number next (stop_then image budget seat.vcpu.number stop m.devices) × Tells h1 order1 (visit_where image budget seat.vcpu.number (Some stop) m)) →
     Stands (slice_set seats k next) h1 order1 (visit image budget k m)
 stands_visit image budget k m seats seat next h0 h1 order0 order1 stands at is same leads =
     let here = at_get 0 k seats m.stops seat stands.seated at in
-    let stop : Stop = here.0 in
+    let stop : Standstill = here.0 in
     let went = leads stop here.2 stands.tells in
-    let visits_it : visit image budget k m ≡ visit_where image budget k (Some stop) m = ap (λ (o : Option Stop). visit_where image budget k o m) here.1 in
+    let visits_it : visit image budget k m ≡ visit_where image budget k (Some stop) m = ap (λ (o : Option Standstill). visit_where image budget k o m) here.1 in
     let zeroth : k ≡ 0 + k = omega arith in
     let placed : IsAt next.vcpu.number next (stop_then image budget k stop m.devices) =
     subst (λ n. IsAt next.vcpu.number next (stop_then image budget n stop m.devices)) is (subst (λ n. IsAt n next (stop_then image budget seat.vcpu.number stop m.devices)) (sym same) went.0) in
@@ -87,13 +87,13 @@ stands_visit image budget k m seats seat next h0 h1 order0 order1 stands at is s
       tells = subst (λ (x : Machine). Tells h1 order1 x) (sym visits_it) tells;
     }
 
-first-more : (image : Imaged) (budget i n : ℕ) → first_stops image budget i (suc n) ≡ first_stops image budget i n ++ next_within budget image.code (start_of image (i + n)) ∷ []
-first-more image budget i zero = let none : i ≡ i + 0 = omega arith in ap (λ k. next_within budget image.code (start_of image k) ∷ []) none
+first-more : (image : Contents) (budget i n : ℕ) → first_stops image budget i (suc n) ≡ first_stops image budget i n ++ next_within budget (start_of image (i + n)) ∷ []
+first-more image budget i zero = let none : i ≡ i + 0 = omega arith in ap (λ k. next_within budget (start_of image k) ∷ []) none
 first-more image budget i (suc n) =
     let one : i + 1 + n ≡ i + suc n = omega arith in
-    ap (λ ss. next_within budget image.code (start_of image i) ∷ ss) (first-more image budget (i + 1) n ∙ ap (λ k. first_stops image budget (i + 1) n ++ next_within budget image.code (start_of image k) ∷ []) one)
+    ap (λ ss. next_within budget (start_of image i) ∷ ss) (first-more image budget (i + 1) n ∙ ap (λ k. first_stops image budget (i + 1) n ++ next_within budget (start_of image k) ∷ []) one)
 
-at_append : (i k : ℕ) (seats : List Seat) (stops : List Stop) (seat : Seat) (stop : Stop) → AreAt i seats stops → length seats ≡ k → seat.vcpu.number ≡ i + k → IsAt seat.vcpu.number seat stop → AreAt i (seats ++ seat ∷ []) (stops ++ stop ∷ [])
+at_append : (i k : ℕ) (seats : List Seat) (stops : List Standstill) (seat : Seat) (stop : Standstill) → AreAt i seats stops → length seats ≡ k → seat.vcpu.number ≡ i + k → IsAt seat.vcpu.number seat stop → AreAt i (seats ++ seat ∷ []) (stops ++ stop ∷ [])
 at_append i k [] [] seat stop all many is at =
     let none : i + k ≡ i = omega arith in
     (is ∙ none, subst (λ n. IsAt n seat stop) (is ∙ none) at, tt)
@@ -105,17 +105,17 @@ at_append i k (s ∷ ss) (x ∷ xs) seat stop all many is at =
     (all.0, all.1, at_append (i + 1) (k - 1) ss xs seat stop all.2 rest (is ∙ one) at)
 
 -- one more seat at its first stop
-pub first_push : (image : Imaged) (budget k : ℕ) (seats : List Seat) (seat : Seat) → AreAt 0 seats (first_stops image budget 0 k) → length seats ≡ k → seat.vcpu.number ≡ k → IsAt seat.vcpu.number seat (next_within budget image.code (start_of image k)) →
+pub first_push : (image : Contents) (budget k : ℕ) (seats : List Seat) (seat : Seat) → AreAt 0 seats (first_stops image budget 0 k) → length seats ≡ k → seat.vcpu.number ≡ k → IsAt seat.vcpu.number seat (next_within budget (start_of image k)) →
     AreAt 0 (seats ++ seat ∷ []) (first_stops image budget 0 (k + 1))
 first_push image budget k seats seat all many is at =
     let none : 0 + k ≡ k = omega arith in
     let one : k + 1 ≡ suc k = omega arith in
-    let stops : first_stops image budget 0 (k + 1) ≡ first_stops image budget 0 k ++ next_within budget image.code (start_of image k) ∷ [] =
-    ap (λ n. first_stops image budget 0 n) one ∙ first-more image budget 0 k ∙ ap (λ n. first_stops image budget 0 k ++ next_within budget image.code (start_of image n) ∷ []) none in
-    subst (λ ss. AreAt 0 (seats ++ seat ∷ []) ss) (sym stops) (at_append 0 k seats (first_stops image budget 0 k) seat (next_within budget image.code (start_of image k)) all many (is ∙ sym none) at)
+    let stops : first_stops image budget 0 (k + 1) ≡ first_stops image budget 0 k ++ next_within budget (start_of image k) ∷ [] =
+    ap (λ n. first_stops image budget 0 n) one ∙ first-more image budget 0 k ∙ ap (λ n. first_stops image budget 0 k ++ next_within budget (start_of image n) ∷ []) none in
+    subst (λ ss. AreAt 0 (seats ++ seat ∷ []) ss) (sym stops) (at_append 0 k seats (first_stops image budget 0 k) seat (next_within budget (start_of image k)) all many (is ∙ sym none) at)
 
 -- all ended as the seats show it
-pub ended_over : (i : ℕ) (seats : List Seat) (stops : List Stop) → AreAt i seats stops → list_all (λ s. is_some s.vcpu.end) seats ≡ true → all_ended stops ≡ true
+pub ended_over : (i : ℕ) (seats : List Seat) (stops : List Standstill) → AreAt i seats stops → list_all (λ s. is_some s.vcpu.end) seats ≡ true → all_ended stops ≡ true
 ended_over i [] [] all over = refl
 ended_over i [] (x ∷ xs) all over = absurd all
 ended_over i (s ∷ ss) [] all over = absurd all
@@ -125,14 +125,14 @@ ended_over i (s ∷ ss) (Ended end v ∷ xs) all over =
     let rest : (is_some (Some end) && list_all (λ (y : Seat). is_some y.vcpu.end) ss) ≡ true = ap (λ (o : Option End). is_some o && list_all (λ (y : Seat). is_some y.vcpu.end) ss) (sym all.1.0.is_ended) ∙ over in
     ended_over (i + 1) ss xs all.2 rest
 
-steps_at : (i : ℕ) (seats : List Seat) (stops : List Stop) → AreAt i seats stops → map (λ s. s.vcpu.guest.steps) seats ≡ steps_of stops
+steps_at : (i : ℕ) (seats : List Seat) (stops : List Standstill) → AreAt i seats stops → map (λ s. s.vcpu.guest.steps) seats ≡ steps_of stops
 steps_at i [] [] all = refl
 steps_at i [] (x ∷ xs) all = absurd all
 steps_at i (s ∷ ss) [] all = absurd all
-steps_at i (s ∷ ss) (Waits e v ∷ xs) all = let rest : map (λ (s : Seat). s.vcpu.guest.steps) ss ≡ steps_of xs = steps_at (i + 1) ss xs all.2 in let one : s.vcpu.guest.steps ≡ v.steps = ap (λ (x : Vcpu). x.steps) all.1.0.is_plain in cc
-steps_at i (s ∷ ss) (Ended end v ∷ xs) all = let rest : map (λ (s : Seat). s.vcpu.guest.steps) ss ≡ steps_of xs = steps_at (i + 1) ss xs all.2 in let one : s.vcpu.guest.steps ≡ v.steps = ap (λ (x : Vcpu). x.steps) all.1.0.is_plain in cc
+steps_at i (s ∷ ss) (Waits e v ∷ xs) all = let rest : map (λ (s : Seat). s.vcpu.guest.steps) ss ≡ steps_of xs = steps_at (i + 1) ss xs all.2 in let one : s.vcpu.guest.steps ≡ v.steps = ap (λ (x : Counted). x.steps) all.1.0.is_plain in cc
+steps_at i (s ∷ ss) (Ended end v ∷ xs) all = let rest : map (λ (s : Seat). s.vcpu.guest.steps) ss ≡ steps_of xs = steps_at (i + 1) ss xs all.2 in let one : s.vcpu.guest.steps ≡ v.steps = ap (λ (x : Counted). x.steps) all.1.0.is_plain in cc
 
-ends_at : (i : ℕ) (seats : List Seat) (stops : List Stop) → AreAt i seats stops → all_ended stops ≡ true → map (λ s. unwrap_or s.vcpu.end Spent) seats ≡ ends_of stops
+ends_at : (i : ℕ) (seats : List Seat) (stops : List Standstill) → AreAt i seats stops → all_ended stops ≡ true → map (λ s. unwrap_or s.vcpu.end Spent) seats ≡ ends_of stops
 ends_at i [] [] all ended = refl
 ends_at i [] (x ∷ xs) all ended = absurd all
 ends_at i (s ∷ ss) [] all ended = absurd all
@@ -152,7 +152,7 @@ hands_back (Err e) turns seats seen same order steps ends = tt
 hands_back (Ok f) turns seats seen same order steps ends = record { order = order; steps = steps ∙ ap (λ ss. map (λ (s : Seat). s.vcpu.guest.steps) ss) same; ends = ends ∙ ap (λ ss. map (λ (s : Seat). unwrap_or s.vcpu.end Spent) ss) same }
 
 -- what is handed back once all have ended
-pub ran : (image : Imaged) (budget n : ℕ) (input : List ℕ) (seats : List Seat) (h : Hosting) (order : List Turn) (f : Finished) →
+pub ran : (image : Contents) (budget n : ℕ) (input : List ℕ) (seats : List Seat) (h : Hosting) (order : List Turn) (f : Finished) →
     n ≤ budget → Stands seats h order (rounds image budget n (machine_at_start image budget input)) → all_ended (rounds image budget n (machine_at_start image budget input)).stops ≡ true →
     HandsBack f order seats → RanRounds image budget input f h
 ran image budget n input seats h order f fewer stands ended back =
@@ -168,7 +168,7 @@ ran image budget n input seats h order f fewer stands ended back =
       ends = back.ends ∙ ends_at 0 seats m.stops stands.seated ended;
       devices = stands.tells.devices;
       history = stands.tells.history;
-      legal = subst (λ (x : Machine). IsLegal x.events x.devices image.vcpus input) same law.1;
+      legal = subst (λ (x : Machine). IsLegal x.events x.devices image.header.vcpus input) same law.1;
     }
 
 told_some : {X : Type 0} (o : Option X) (x : X) → IsSome o → option_map (λ _. x) o ≡ Some x
@@ -176,11 +176,11 @@ told_some None x some = cc
 told_some (Some y) x some = refl
 
 -- a started host stands with the vCPUs at their first stops
-pub stands_first : (image : Imaged) (budget : ℕ) (input : List ℕ) (seats : List Seat) (h0 h1 : Hosting) → IsTelling h0 → h1 ≡ started image.vcpus input h0 → AreAt 0 seats (first_stops image budget 0 image.vcpus) → Stands seats h1 [] (machine_at_start image budget input)
+pub stands_first : (image : Contents) (budget : ℕ) (input : List ℕ) (seats : List Seat) (h0 h1 : Hosting) → IsTelling h0 → h1 ≡ started image.header.vcpus input h0 → AreAt 0 seats (first_stops image budget 0 image.header.vcpus) → Stands seats h1 [] (machine_at_start image budget input)
 stands_first image budget input seats h0 h1 telling starts all = record {
   seated = all;
   tells = record {
-    devices = ap (λ (h : Hosting). h.devices) starts ∙ told_some h0.devices (opening image.vcpus input) telling.0;
+    devices = ap (λ (h : Hosting). h.devices) starts ∙ told_some h0.devices (opening image.header.vcpus input) telling.0;
     history = ap (λ (h : Hosting). h.history) starts ∙ told_some h0.history [] telling.1;
     turns = refl;
   };

@@ -11,7 +11,7 @@ use Rattle.host_events.specs.Devices.{Devices, answer}
 use Rattle.host_events.specs.Wire.{wire}
 use Rattle.host_events.specs.Served.{call_of, served}
 use Rattle.ghcb_cli.specs.Accept.{outcome_on}
-use Rattle.ghcb_cli.specs.GuestCode.{IsByteOut}
+use Rattle.ghcb_cli.specs.Guest.{IsByteEvent}
 
 -- what a guest takes where the devices say this
 abbrev pub outcome_of : Answer → Outcome
@@ -24,7 +24,7 @@ answer_to d i (One access) = answer d i access
 -- A page on which vCPU i showed a byte that it puts out, whatever its other words hold, is served with that event,
 -- and of what is left the guest takes what the devices say.
 abbrev pub BothEnds : Type 0
-BothEnds = (i : ℕ) (event : Event) (before : Kept) (d : Devices) → IsByteOut event → length before.words ≡ 512 →
+BothEnds = (i : ℕ) (event : Event) (before : Kept) (d : Devices) → IsByteEvent event → length before.words ≡ 512 →
     (call_of i (kept_after_all before (wire i event)) ≡ Some event)
     × (outcome_on event (served i (kept_after_all before (wire i event)) d).page ≡ outcome_of (answer_to d i event))
     × (length (served i (kept_after_all before (wire i event)) d).page.words ≡ 512)

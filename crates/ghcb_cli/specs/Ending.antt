@@ -1,5 +1,6 @@
 -- How a call of the program ends, and what each end means.
 use Rattle.std.specs.Prelude.{◌≡◌, ◌⊎◌, ℕ, List, [], Some, None, IfSome}
+use Rattle.image_file.specs.Image.{Contents}
 use Rattle.event_table.specs.declared.turn.Finished.{Finished}
 use Rattle.host_events.specs.Hosting.{Hosting, IsTelling}
 use Rattle.ghcb_cli.specs.declared.top.Done.{Done}
@@ -10,7 +11,6 @@ use Rattle.ghcb_cli.specs.declared.top.Unready.TheVariants as unready
 use Rattle.ghcb_cli.specs.declared.text.Refused.{Refused}
 use Rattle.ghcb_cli.specs.Command.{command_of, reading_of}
 use Rattle.ghcb_cli.specs.Outside.{Shelf, Paper, Rose, Puts, wrote}
-use Rattle.ghcb_cli.specs.Plain.{Imaged}
 use Rattle.ghcb_cli.specs.Program.{said, says_refused, Runs, RunsFiles, IsToEnd, IsPart, IsOutput}
 use Rattle.ghcb_cli.specs.Text.{usage, line_of}
 
@@ -70,7 +70,7 @@ EndsAs words old new ending.WriteFault = FailsWrite words old new
 EndsAs words old new ending.OutOfMemory = new.out.written ≡ old.out.written
 
 -- how the run of an image over an input ends
-abbrev pub RunEndsAs : Imaged → List ℕ → ℕ → Hosting → Hosting → Paper → Paper → Ending → Type 0
+abbrev pub RunEndsAs : Contents → List ℕ → ℕ → Hosting → Hosting → Paper → Paper → Ending → Type 0
 RunEndsAs image input steps before after old new (ending.Done f) = IsTelling before → Runs image input steps f after old.written new.written
 RunEndsAs image input steps before after old new ending.WriteFault = Rose old.faults new.faults × ((text : List ℕ) × Puts old.written text new.written × IsOutput image steps input before text)
 RunEndsAs image input steps before after old new ending.OutOfMemory = new.written ≡ old.written

@@ -1,70 +1,66 @@
--- The guest of one form: four instructions, and how far it goes by itself.
-use Rattle.std.specs.Prelude.{ℕ, suc, zero, ◌==◌, ◌+◌, ◌*◌, ◌-◌, ◌%◌, ◌^◌, nat_le, nat_lt, ◌&&◌, if◌then◌else◌, List, [], ◌∷◌, length, Option, Some, None, slice_index}
-use Rattle.x86_base.specs.declared.reg.Reg.TheVariants.{Rax, Rdx}
-use Rattle.x86_base.specs.declared.reg.Width.TheVariants.{B8, B32}
+-- What the values of the guest's code mean.
+use Rattle.std.specs.Prelude.{ℕ, ◌+◌, ◌<◌, Result, Ok, Err}
+use Rattle.x86_base.specs.declared.insn.Insn.{Insn}
 use Rattle.event_table.specs.declared.end.End.{End}
-use Rattle.event_table.specs.declared.end.End.TheVariants.{Halted, Spent, Undecoded}
 use Rattle.event_table.specs.declared.event.Event.{Event}
 use Rattle.event_table.specs.declared.event.Event.TheVariants.{One}
-use Rattle.event_table.specs.Plan.{Vcpu, Place, Fixed, Low, Plan, Ends, Next, Then, writes, out_byte, Stepped, Moved, Exits, Stops, stepped}
-use Rattle.ghcb_cli.specs.declared.guest.insn.Insn.{Insn}
-use Rattle.ghcb_cli.specs.declared.guest.insn.Insn.TheVariants.{MovEdx, MovAl, OutDxAl, Hlt}
+use Rattle.event_table.specs.Lawful.{IsByteOut}
+use Rattle.event_table.specs.Places.{Vcpu, vcpu}
+use Rattle.event_table.specs.Plan.{Stepped, Moved, Exits, Stops, setting, stepped}
+use Rattle.guest_interp.specs.Stepping.{Counted, at_count, counted, plan_of, Standstill, Waits, Ended}
+use Rattle.ghcb_cli.specs.declared.guest.Guest.{Guest}
+use Rattle.ghcb_cli.specs.declared.guest.Step.{Step}
+use Rattle.ghcb_cli.specs.declared.guest.Step.TheVariants as step
+use Rattle.ghcb_cli.specs.declared.guest.Stop.{Stop}
+use Rattle.ghcb_cli.specs.declared.guest.Stop.TheVariants as stops
 
--- the number of the four bytes at a place, the lowest first
-abbrev pub number_at : List ℕ → ℕ → ℕ
-number_at code at = slice_index code at + slice_index code (at + 1) * 2 ^ 8 + slice_index code (at + 2) * 2 ^ 16 + slice_index code (at + 3) * 2 ^ 24
+-- the vCPU of the code, and its counted steps
+abbrev pub vcpu_in : Guest → Vcpu
+vcpu_in g = vcpu g.regs g.ram
 
--- by the first byte, and how many bytes there are from it on (APM volume 3, MOV, OUT, HLT)
-abbrev pub insn_by : List ℕ → ℕ → ℕ → ℕ → Option Insn
-insn_by code rip byte left =
-    if (byte == 0xBA) && nat_le 5 left then Some (MovEdx (number_at code (rip + 1)))
-    else if (byte == 0xB0) && nat_le 2 left then Some (MovAl (slice_index code (rip + 1)))
-    else if byte == 0xEE then Some OutDxAl
-    else if byte == 0xF4 then Some Hlt
-    else None
+abbrev pub plain : Guest → Counted
+plain g = at_count (vcpu_in g) g.steps
 
--- the instruction that the bytes from RIP on spell, within the code
-abbrev pub insn_of : List ℕ → ℕ → Option Insn
-insn_of code rip = if nat_lt rip (length code) then insn_by code rip (slice_index code rip) (length code - rip) else None
+-- what a decoded instruction does
+abbrev pub stepped_by : Insn → Vcpu → Stepped
+stepped_by i v = stepped v (plan_of i (setting v i.len))
 
--- the following instruction's address
-abbrev pub following : ℕ → ℕ → ℕ
-following rip len = (rip + len) % 2 ^ 64
+-- what an instruction came to, with the vCPU then
+abbrev pub as_stepped : Step → Vcpu → Stepped
+as_stepped step.Goes v = Moved v
+as_stepped (step.Asks access) v = Exits access v
+as_stepped (step.Ends end) v = Stops end v
 
-abbrev pub move : Place → ℕ → ℕ → Plan
-move target value next = Then (writes next (target ∷ []) (Fixed value ∷ []) (λ values. values)) Next
+-- the steps then
+abbrev pub steps_then : Step → ℕ → ℕ
+steps_then step.Goes steps = steps + 1
+steps_then (step.Asks access) steps = steps
+steps_then (step.Ends end) steps = counted end steps
 
--- what each instruction does
-abbrev pub plan_of : ℕ → Option Insn → Plan
-plan_of rip (Some (MovEdx value)) = move (Low Rdx B32) value (following rip 5)
-plan_of rip (Some (MovAl value)) = move (Low Rax B8) value (following rip 2)
-plan_of rip (Some OutDxAl) = out_byte (following rip 1)
-plan_of rip (Some Hlt) = Ends Halted
-plan_of rip None = Ends Undecoded
+-- what came of an access's results, with the vCPU then
+abbrev pub as_placed : {A : Type 0} → Result A End → Vcpu → Stepped
+as_placed (Ok _) v = Moved v
+as_placed (Err end) v = Stops end v
 
-abbrev pub plan_at : List ℕ → Vcpu → Plan
-plan_at code v = plan_of v.regs.rip (insn_of code v.regs.rip)
+-- the steps then
+abbrev pub steps_placed : {A : Type 0} → Result A End → ℕ → ℕ
+steps_placed (Ok _) steps = steps + 1
+steps_placed (Err end) steps = counted end steps
 
--- Where a vCPU stops: it waits for an event, or has ended.
-pub data Stop : Type 0 where
-  Waits : (event : Event) → (vcpu : Vcpu) → Stop
-  Ended : (end : End) → (vcpu : Vcpu) → Stop
+-- where it stops
+abbrev pub as_stop : Stop → Counted → Standstill
+as_stop (stops.Waits event) c = Waits event c
+as_stop (stops.Ends end) c = Ended end c
 
--- where it stops after an instruction, if `more` tells where one that moved on stops
-abbrev pub stop_after : Stepped → (Vcpu → Stop) → Stop
-stop_after (Moved gone) more = more gone
-stop_after (Exits access v) more = Waits (One access) v
-stop_after (Stops end v) more = Ended end v
+-- an event that is shown so far: a byte put out
+abbrev pub IsByteEvent : Event → Type 0
+IsByteEvent (One access) = IsByteOut access
 
--- one instruction
-unfoldable pub step_of : List ℕ → Vcpu → Stepped
-step_of code v = stepped v (plan_at code v)
+abbrev pub IsByteStep : Step → Type 0
+IsByteStep (step.Asks access) = IsByteOut access
+IsByteStep _ = Unit {0}
 
--- where a vCPU stops by itself, with so many steps left: it ends where none is
-abbrev pub next_of : ℕ → List ℕ → Vcpu → Stop
-next_of zero code v = Ended Spent v
-next_of (suc left) code v = stop_after (step_of code v) (λ gone. next_of left code gone)
-
--- where it stops within its budget
-abbrev pub next_within : ℕ → List ℕ → Vcpu → Stop
-next_within budget code v = next_of (budget - v.steps) code v
+-- what it waits for is a byte put out, and a step is left for it
+abbrev pub IsByteStop : Stop → ℕ → ℕ → Type 0
+IsByteStop (stops.Waits event) steps budget = IsByteEvent event × (steps < budget)
+IsByteStop (stops.Ends end) steps budget = Unit {0}

@@ -1,5 +1,4 @@
 pub mod Guest
-pub mod GuestCode
 pub mod Plain
 pub mod Accept
 pub mod BothEnds
@@ -9,7 +8,6 @@ pub mod Ran
 pub mod Outside
 pub mod Memory
 pub mod Command
-pub mod ImageFile
 pub mod Text
 pub mod Reading
 pub mod Program

@@ -1,81 +1,76 @@
 -- The plain machine: guests and devices alone, with no page, handler or host.
 use Rattle.std.specs.Prelude.{◌≡◌, ℕ, suc, zero, ◌==◌, ◌+◌, Bool, true, false, ◌&&◌, if◌then◌else◌, List, [], ◌∷◌, ◌++◌, Option, Some, None, option_and_then, slice_get, slice_set}
+use Rattle.image_file.specs.Image.{Contents}
 use Rattle.event_table.specs.declared.end.End.{End}
 use Rattle.event_table.specs.declared.event.Event.{Event}
 use Rattle.event_table.specs.declared.event.Event.TheVariants.{One}
 use Rattle.event_table.specs.declared.turn.Turn.{Turn}
 use Rattle.event_table.specs.Lawful.{count_of}
 use Rattle.event_table.specs.Opening.{opened}
-use Rattle.event_table.specs.Plan.{Vcpu, Plan, Stepped, placed}
+use Rattle.event_table.specs.Plan.{Stepped}
 use Rattle.host_events.specs.declared.bus.Answer.{Answer}
 use Rattle.host_events.specs.declared.bus.Answer.TheVariants.{Done}
 use Rattle.host_events.specs.declared.history.Entry.{Entry}
 use Rattle.host_events.specs.Devices.{Devices, opening, answer, after_access}
 use Rattle.host_events.specs.History.{turns_of, IsLegal}
-use Rattle.ghcb_cli.specs.Guest.{plan_at, Stop, Waits, Ended, stop_after, next_within}
-
--- an image: the number of vCPUs, the size of each one's RAM, and the code
-pub record Imaged : Type 0 where
-  pub vcpus : ℕ
-  pub ram : ℕ
-  pub code : List ℕ
+use Rattle.guest_interp.specs.Stepping.{Counted, at_count, results_of, Standstill, Waits, Ended, stop_answered, next_within}
 
 -- where each vCPU stops, the devices, and the events so far
 pub record Machine : Type 0 where
-  pub stops : List Stop
+  pub stops : List Standstill
   pub devices : Devices
   pub events : List Entry
 
--- vCPU i as it starts, at the code's first byte
-abbrev pub start_of : Imaged → ℕ → Vcpu
-start_of image i = opened image.vcpus image.ram 0 i
+-- vCPU i as it starts
+abbrev pub start_of : Contents → ℕ → Counted
+start_of image i = at_count (opened image i) 0
 
 -- so many vCPUs from number i on, each gone on to its first event or its end
-abbrev pub first_stops : Imaged → ℕ → ℕ → ℕ → List Stop
+abbrev pub first_stops : Contents → ℕ → ℕ → ℕ → List Standstill
 first_stops image budget i zero = []
-first_stops image budget i (suc more) = next_within budget image.code (start_of image i) ∷ first_stops image budget (i + 1) more
+first_stops image budget i (suc more) = next_within budget (start_of image i) ∷ first_stops image budget (i + 1) more
 
-abbrev pub machine_at_start : Imaged → ℕ → List ℕ → Machine
-machine_at_start image budget input = record { stops = first_stops image budget 0 image.vcpus; devices = opening image.vcpus input; events = [] }
+abbrev pub machine_at_start : Contents → ℕ → List ℕ → Machine
+machine_at_start image budget input = record { stops = first_stops image budget 0 image.header.vcpus; devices = opening image.header.vcpus input; events = [] }
 
 -- how the instruction goes on with what the devices say
-abbrev pub answered : Answer → Vcpu → Plan → Stepped
-answered (Done values) v plan = placed values v plan
+abbrev pub answered : Answer → Counted → Stepped
+answered (Done values) c = results_of values c.vcpu
 
 -- where a vCPU stops next, once its event is answered
-abbrev pub next_stop : Imaged → ℕ → ℕ → Event → Vcpu → Devices → Stop
-next_stop image budget i (One access) v devices =
-    stop_after (answered (answer devices i access) v (plan_at image.code v)) (λ gone. next_within budget image.code gone)
+abbrev pub next_stop : Contents → ℕ → ℕ → Event → Counted → Devices → Standstill
+next_stop image budget i (One access) c devices =
+    stop_answered c.steps (answered (answer devices i access) c) (λ gone. next_within budget gone)
 
 abbrev pub next_devices : ℕ → Event → Devices → Devices
 next_devices i (One access) devices = after_access devices i access
 
 -- the event of vCPU i is done
-abbrev pub single : Imaged → ℕ → ℕ → Event → Vcpu → Machine → Machine
-single image budget i event v m = record {
-  stops = slice_set m.stops i (next_stop image budget i event v m.devices);
+abbrev pub single : Contents → ℕ → ℕ → Event → Counted → Machine → Machine
+single image budget i event c m = record {
+  stops = slice_set m.stops i (next_stop image budget i event c m.devices);
   devices = next_devices i event m.devices;
   events = m.events ++ record { vcpu = i; event = event } ∷ [];
 }
 
-abbrev pub single_where : Imaged → ℕ → Turn → Option Stop → Machine → Option Machine
-single_where image budget turn (Some (Waits event v)) m = if turn.count == count_of event then Some (single image budget turn.vcpu event v m) else None
-single_where image budget turn (Some (Ended end v)) m = None
+abbrev pub single_where : Contents → ℕ → Turn → Option Standstill → Machine → Option Machine
+single_where image budget turn (Some (Waits event c)) m = if turn.count == count_of event then Some (single image budget turn.vcpu event c m) else None
+single_where image budget turn (Some (Ended end c)) m = None
 single_where image budget turn None m = None
 
 -- one item of an order: the vCPU must wait, and the count must be its event's
-abbrev pub item : Imaged → ℕ → Machine → Turn → Option Machine
+abbrev pub item : Contents → ℕ → Machine → Turn → Option Machine
 item image budget m turn = single_where image budget turn (slice_get m.stops turn.vcpu) m
 
-abbrev pub along : Imaged → ℕ → List Turn → Machine → Option Machine
+abbrev pub along : Contents → ℕ → List Turn → Machine → Option Machine
 along image budget [] m = Some m
 along image budget (turn ∷ order) m = option_and_then (λ next. along image budget order next) (item image budget m turn)
 
-abbrev pub has_ended : Stop → Bool
-has_ended (Waits event v) = false
-has_ended (Ended end v) = true
+abbrev pub has_ended : Standstill → Bool
+has_ended (Waits event c) = false
+has_ended (Ended end c) = true
 
-abbrev pub all_ended : List Stop → Bool
+abbrev pub all_ended : List Standstill → Bool
 all_ended [] = true
 all_ended (stop ∷ stops) = has_ended stop && all_ended stops
 
@@ -83,53 +78,53 @@ abbrev pub where_ended : Machine → Option Machine
 where_ended m = if all_ended m.stops then Some m else None
 
 -- The plain run along an order: none where an item's vCPU doesn't wait for such an event, or a vCPU hasn't ended after the order.
-abbrev pub plain_run : Imaged → ℕ → List ℕ → List Turn → Option Machine
+abbrev pub plain_run : Contents → ℕ → List ℕ → List Turn → Option Machine
 plain_run image budget input order = option_and_then where_ended (along image budget order (machine_at_start image budget input))
 
-abbrev pub visit_where : Imaged → ℕ → ℕ → Option Stop → Machine → Machine
-visit_where image budget i (Some (Waits event v)) m = single image budget i event v m
-visit_where image budget i (Some (Ended end v)) m = m
+abbrev pub visit_where : Contents → ℕ → ℕ → Option Standstill → Machine → Machine
+visit_where image budget i (Some (Waits event c)) m = single image budget i event c m
+visit_where image budget i (Some (Ended end c)) m = m
 visit_where image budget i None m = m
 
 -- vCPU i gets one item if it waits
-abbrev pub visit : Imaged → ℕ → ℕ → Machine → Machine
+abbrev pub visit : Contents → ℕ → ℕ → Machine → Machine
 visit image budget i m = visit_where image budget i (slice_get m.stops i) m
 
 -- the first so many vCPUs get theirs, in ascending number
-abbrev pub visits : Imaged → ℕ → ℕ → Machine → Machine
+abbrev pub visits : Contents → ℕ → ℕ → Machine → Machine
 visits image budget zero m = m
 visits image budget (suc k) m = visit image budget k (visits image budget k m)
 
 -- so many rounds
-abbrev pub rounds : Imaged → ℕ → ℕ → Machine → Machine
+abbrev pub rounds : Contents → ℕ → ℕ → Machine → Machine
 rounds image budget zero m = m
-rounds image budget (suc n) m = visits image budget image.vcpus (rounds image budget n m)
+rounds image budget (suc n) m = visits image budget image.header.vcpus (rounds image budget n m)
 
 -- The machine after all rounds: each item adds a step to its vCPU or ends it, so no more rounds than the budget come.
-abbrev pub rounds_machine : Imaged → ℕ → List ℕ → Machine
+abbrev pub rounds_machine : Contents → ℕ → List ℕ → Machine
 rounds_machine image budget input = rounds image budget budget (machine_at_start image budget input)
 
 -- the order of rounds, until all have ended
-abbrev pub rounds_order : Imaged → ℕ → List ℕ → List Turn
+abbrev pub rounds_order : Contents → ℕ → List ℕ → List Turn
 rounds_order image budget input = turns_of (rounds_machine image budget input).events
 
-abbrev pub vcpu_of : Stop → Vcpu
-vcpu_of (Waits event v) = v
-vcpu_of (Ended end v) = v
+abbrev pub vcpu_of : Standstill → Counted
+vcpu_of (Waits event c) = c
+vcpu_of (Ended end c) = c
 
 -- the steps of each vCPU by its number
-abbrev pub steps_of : List Stop → List ℕ
+abbrev pub steps_of : List Standstill → List ℕ
 steps_of [] = []
 steps_of (stop ∷ stops) = (vcpu_of stop).steps ∷ steps_of stops
 
 -- the ends of those that have ended, by their numbers
-abbrev pub ends_of : List Stop → List End
+abbrev pub ends_of : List Standstill → List End
 ends_of [] = []
-ends_of (Waits event v ∷ stops) = ends_of stops
-ends_of (Ended end v ∷ stops) = end ∷ ends_of stops
+ends_of (Waits event c ∷ stops) = ends_of stops
+ends_of (Ended end c ∷ stops) = end ∷ ends_of stops
 
 -- The order of rounds has a plain run, which is the machine after all rounds, and its history is legal.
 abbrev pub RoundsRun : Type 0
-RoundsRun = (image : Imaged) (budget : ℕ) (input : List ℕ) →
+RoundsRun = (image : Contents) (budget : ℕ) (input : List ℕ) →
     (plain_run image budget input (rounds_order image budget input) ≡ Some (rounds_machine image budget input))
-    × IsLegal (rounds_machine image budget input).events (rounds_machine image budget input).devices image.vcpus input
+    × IsLegal (rounds_machine image budget input).events (rounds_machine image budget input).devices image.header.vcpus input

@@ -1,15 +1,16 @@
 -- What the program says and does.
 use Rattle.std.specs.Prelude.{◌≡◌, ◌⊎◌, ℕ, nat_lt, List, Option, Some, None, Result, Ok, Err, IfSome, option_map, option_and_then, if◌then◌else◌, length}
+use Rattle.image_file.specs.declared.fault.ImageFault.{ImageFault}
+use Rattle.image_file.specs.Image.{Contents, image_of}
 use Rattle.event_table.specs.declared.turn.Finished.{Finished}
 use Rattle.host_events.specs.Hosting.{Hosting, IsTelling}
 use Rattle.ghcb_cli.specs.declared.command.Command.{Command}
 use Rattle.ghcb_cli.specs.declared.command.Command.TheVariants.{Run, ShowPage, ShowMsr, ShowInfo}
 use Rattle.ghcb_cli.specs.declared.text.Refused.{Refused}
-use Rattle.ghcb_cli.specs.declared.text.Refused.TheVariants.{ImageLimit, NotYet, InputLimit}
+use Rattle.ghcb_cli.specs.declared.text.Refused.TheVariants.{ImageLimit, Image, NotYet, InputLimit}
 use Rattle.ghcb_cli.specs.Command.{command_of, reading_by, word_at}
-use Rattle.ghcb_cli.specs.ImageFile.{image_of}
 use Rattle.ghcb_cli.specs.Outside.{wrote, Puts}
-use Rattle.ghcb_cli.specs.Plain.{Imaged, rounds_machine}
+use Rattle.ghcb_cli.specs.Plain.{rounds_machine}
 use Rattle.ghcb_cli.specs.Ran.{RanRounds}
 use Rattle.ghcb_cli.specs.Text.{usage, line_of}
 
@@ -39,12 +40,13 @@ says_refused refused = record { status = 3; refused = Some refused; text = line_
 abbrev pub says_output : List ℕ → Said
 says_output console = record { status = 0; refused = None; text = console }
 
-abbrev pub image_by : Option Imaged → Result Imaged Refused
-image_by (Some image) = Ok image
-image_by None = Err NotYet
+-- an image of one vCPU runs so far
+abbrev pub image_by : Result Contents ImageFault → Result Contents Refused
+image_by (Ok image) = if nat_lt 1 image.header.vcpus then Err NotYet else Ok image
+image_by (Err fault) = Err (Image fault)
 
 -- the image in a file's bytes, or the first limit or rule that they break
-abbrev pub image_in : List ℕ → Result Imaged Refused
+abbrev pub image_in : List ℕ → Result Contents Refused
 image_in bytes = if nat_lt most_image (length bytes) then Err ImageLimit else image_by (image_of bytes)
 
 -- the input in a file's bytes, or the limit that they break
@@ -52,14 +54,14 @@ abbrev pub input_in : List ℕ → Result (List ℕ) Refused
 input_in bytes = if nat_lt most_input (length bytes) then Err InputLimit else Ok bytes
 
 -- the plain machine's output in the order of rounds
-abbrev pub output_of : Imaged → ℕ → List ℕ → List ℕ
+abbrev pub output_of : Contents → ℕ → List ℕ → List ℕ
 output_of image steps input = (rounds_machine image steps input).devices.console
 
-abbrev pub said_over : Imaged → ℕ → Result (List ℕ) Refused → Said
+abbrev pub said_over : Contents → ℕ → Result (List ℕ) Refused → Said
 said_over image steps (Ok input) = says_output (output_of image steps input)
 said_over image steps (Err refused) = says_refused refused
 
-abbrev pub said_with : Option (List ℕ) → ℕ → Result Imaged Refused → Option Said
+abbrev pub said_with : Option (List ℕ) → ℕ → Result Contents Refused → Option Said
 said_with input steps (Ok image) = option_map (λ bytes. said_over image steps (input_in bytes)) input
 said_with input steps (Err refused) = Some (says_refused refused)
 
@@ -76,14 +78,14 @@ abbrev pub said : Folder → List (List ℕ) → Option Said
 said folder words = said_by (folder (word_at words 1)) (folder (word_at words 2)) (word_at words 2) (command_of words)
 
 -- The run of an image over an input, in rounds, with its output written.
-pub record Runs (image : Imaged) (input : List ℕ) (steps : ℕ) (f : Finished) (h : Hosting) (old new : Option (List ℕ)) : Type 0 where
+pub record Runs (image : Contents) (input : List ℕ) (steps : ℕ) (f : Finished) (h : Hosting) (old new : Option (List ℕ)) : Type 0 where
   pub ran : RanRounds image steps input f h
   pub writes : new ≡ wrote old ran.machine.devices.console
 
 -- The run of the files that the words name: the plain machine's output in the order of rounds was written.
 pub record RunsFiles (folder : Folder) (words : List (List ℕ)) (f : Finished) (h : Hosting) (old new : Option (List ℕ)) : Type 0 where
   pub steps : ℕ
-  pub image : Imaged
+  pub image : Contents
   pub input : List ℕ
   pub command : command_of words ≡ Some (Run steps)
   pub image_file : option_map image_in (folder (word_at words 1)) ≡ Some (Ok image)
@@ -106,9 +108,9 @@ pub record IsPart (folder : Option Folder) (words : List (List ℕ)) (h : Hostin
   pub puts : Puts old text new
 
 -- A refusal is the image's, or the input's where there is an image.
-abbrev pub IsRefusal : Refused → Option (Result Imaged Refused) → Option (Result (List ℕ) Refused) → Type 0
-IsRefusal r image input = (image ≡ Some (Err r)) ⊎ ((made : Imaged) × (image ≡ Some (Ok made)) × (input ≡ Some (Err r)))
+abbrev pub IsRefusal : Refused → Option (Result Contents Refused) → Option (Result (List ℕ) Refused) → Type 0
+IsRefusal r image input = (image ≡ Some (Err r)) ⊎ ((made : Contents) × (image ≡ Some (Ok made)) × (input ≡ Some (Err r)))
 
 -- what is known of a text that an image's run over an input prints
-abbrev pub IsOutput : Imaged → ℕ → List ℕ → Hosting → List ℕ → Type 0
+abbrev pub IsOutput : Contents → ℕ → List ℕ → Hosting → List ℕ → Type 0
 IsOutput image steps input h text = IsTelling h → text ≡ output_of image steps input

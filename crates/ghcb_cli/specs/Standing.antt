@@ -1,16 +1,17 @@
 -- What vCPUs over their pages, a host and an order stand for: a plain machine.
 use Rattle.std.specs.Prelude.{◌≡◌, ℕ, ◌+◌, List, [], ◌∷◌, length, Some, None}
 use Rattle.page_words.specs.Told.{Kept, kept_after_all}
+use Rattle.image_file.specs.Image.{Contents}
 use Rattle.event_table.specs.declared.event.Event.{Event}
 use Rattle.event_table.specs.declared.turn.Turn.{Turn}
+use Rattle.guest_interp.specs.Stepping.{Standstill, Waits, Ended}
 use Rattle.host_events.specs.Devices.{Devices}
 use Rattle.host_events.specs.History.{turns_of}
 use Rattle.host_events.specs.Hosting.{Hosting}
 use Rattle.host_events.specs.Wire.{wire}
 use Rattle.ghcb_cli.specs.declared.seat.Seat.{Seat}
-use Rattle.ghcb_cli.specs.Guest.{Stop, Waits, Ended}
-use Rattle.ghcb_cli.specs.GuestCode.{IsByteOut}
-use Rattle.ghcb_cli.specs.Plain.{Imaged, Machine, next_stop}
+use Rattle.ghcb_cli.specs.Guest.{IsByteEvent}
+use Rattle.ghcb_cli.specs.Plain.{Machine, next_stop}
 use Rattle.ghcb_cli.specs.Seats.{Is}
 
 -- the event is shown on the page, whatever its other words hold
@@ -18,12 +19,12 @@ pub record Shows (i : ℕ) (event : Event) (page : Kept) : Type 0 where
   pub before : Kept
   pub shown : page ≡ kept_after_all before (wire i event)
   pub full : length before.words ≡ 512
-  pub byte : IsByteOut event
+  pub byte : IsByteEvent event
 
 -- the vCPU with its page stops there
-abbrev pub IsAt : ℕ → Seat → Stop → Type 0
-IsAt i seat (Waits event v) = Is seat.vcpu v (Some event) None × Shows i event seat.page
-IsAt i seat (Ended end v) = Is seat.vcpu v None (Some end) × Unit {0}
+abbrev pub IsAt : ℕ → Seat → Standstill → Type 0
+IsAt i seat (Waits event c) = Is seat.vcpu c (Some event) None × Shows i event seat.page
+IsAt i seat (Ended end c) = Is seat.vcpu c None (Some end) × Unit {0}
 
 -- the host tells the devices and the events of the machine, and the order is theirs
 pub record Tells (h : Hosting) (order : List Turn) (m : Machine) : Type 0 where
@@ -32,12 +33,12 @@ pub record Tells (h : Hosting) (order : List Turn) (m : Machine) : Type 0 where
   pub turns : order ≡ turns_of m.events
 
 -- where the vCPU stops once it got its item
-abbrev pub stop_then : Imaged → ℕ → ℕ → Stop → Devices → Stop
-stop_then image budget i (Waits event v) devices = next_stop image budget i event v devices
-stop_then image budget i (Ended end v) devices = Ended end v
+abbrev pub stop_then : Contents → ℕ → ℕ → Standstill → Devices → Standstill
+stop_then image budget i (Waits event c) devices = next_stop image budget i event c devices
+stop_then image budget i (Ended end c) devices = Ended end c
 
 -- each vCPU has its number and stops where the machine's does
-abbrev pub AreAt : ℕ → List Seat → List Stop → Type 0
+abbrev pub AreAt : ℕ → List Seat → List Standstill → Type 0
 AreAt i [] [] = Unit {0}
 AreAt i (seat ∷ seats) (stop ∷ stops) = (seat.vcpu.number ≡ i) × IsAt i seat stop × AreAt (i + 1) seats stops
 AreAt i [] (stop ∷ stops) = ⊥

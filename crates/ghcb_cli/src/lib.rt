@@ -4,7 +4,6 @@
 mod command;
 mod guest;
 mod handler;
-mod image;
 mod law;
 mod read_whole;
 mod rounds;

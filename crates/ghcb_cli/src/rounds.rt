@@ -3,38 +3,39 @@ ghost use Rattle.std.specs.Prelude.{◌≡◌, ◌<◌, ◌≤◌, length, map, 
 ghost use Rattle.std.specs.List.{list_all};
 ghost use Rattle.event_table.specs.declared.end.End.TheVariants.{Spent as spent};
 ghost use Rattle.host_events.specs.Hosting.{IsTelling};
-ghost use Rattle.ghcb_cli.specs.Guest.{next_within};
+ghost use Rattle.guest_interp.specs.Stepping.{next_within};
 ghost use Rattle.ghcb_cli.specs.Plain.{Machine, visits, start_of, first_stops};
 ghost use Rattle.ghcb_cli.specs.Standing.{IsAt, AreAt, AreNumbered, Stands};
 ghost use Rattle.ghcb_cli.specs.Ran.{RanRounds};
 
-use crate::image::Image;
 use crate::seat::{Seat, visit};
 use crate::vcpu::Vcpu;
 use event_table::{End, Finished, Turn};
 use host_events::Host;
+use image_file::Image;
 use page_words::Words;
 use std::alloc::{AllocError as OutOfMemory, Global};
 
 // A vCPU over a page of zeros, at its first event or its end.
-fn seat_of(image: &Image, number: u16, budget: u64) -> Seat
-    ensures number { result.vcpu.number ≡ number }
-    ensures at { IsAt number result (next_within budget image.now.code (start_of image.now number)) }
+fn seat_of(alloc: Global, image: &Image, number: u16, budget: u64) -> Result<Seat, OutOfMemory>
+    ensures number { IfOk result (λ seat. seat.vcpu.number ≡ number) }
+    ensures at { IfOk result (λ seat. IsAt number seat (next_within budget (start_of image.now number))) }
 {
-    let mut vcpu = Vcpu::new(image.vcpus(), image.ram_size(), number);
+    let ram = image.ram(alloc)?;
+    let mut vcpu = Vcpu::new(image, number, ram);
     let mut page = Words::new();
-    vcpu.run_to_exit(image.code(), &mut page, budget);
-    Seat { vcpu, page }
+    vcpu.run_to_exit(&mut page, budget);
+    Ok(Seat { vcpu, page })
 }
 
 // Each vCPU at its first event or its end.
 fn open(alloc: Global, image: &Image, budget: u64) -> Result<Vec<Seat>, OutOfMemory>
-    ensures at { IfOk result (λ seats. AreAt 0 seats.items (first_stops image.now budget 0 image.now.vcpus)) }
-    ensures many { IfOk result (λ seats. length seats.items ≡ image.now.vcpus) }
+    ensures at { IfOk result (λ seats. AreAt 0 seats.items (first_stops image.now budget 0 image.now.header.vcpus)) }
+    ensures many { IfOk result (λ seats. length seats.items ≡ image.now.header.vcpus) }
 {
     let mut seats = Vec::new(alloc);
     for number in 0..image.vcpus() {
-        seats.push(seat_of(image, number, budget))?;
+        seats.push(seat_of(alloc, image, number, budget)?)?;
     }
     Ok(seats)
 }
@@ -47,17 +48,17 @@ fn round<H: Host>(
     host: &mut H,
     order: &mut Vec<Turn>,
 ) -> Result<(), OutOfMemory>
-    requires many { length seats.old ≡ image.now.vcpus }
+    requires many { length seats.old ≡ image.now.header.vcpus }
     requires numbered { AreNumbered 0 seats.old }
-    requires hosted { (H.told host.old).vcpus ≡ image.now.vcpus }
+    requires hosted { (H.told host.old).vcpus ≡ image.now.header.vcpus }
     ensures ok { (m : Machine) → Stands seats.old (H.told host.old) order.old.items m
-        → OnOk result (Stands seats.new (H.told host.new) order.new.items (visits image.now budget image.now.vcpus m)) }
+        → OnOk result (Stands seats.new (H.told host.new) order.new.items (visits image.now budget image.now.header.vcpus m)) }
     ensures numbered { AreNumbered 0 seats.new }
-    ensures hosted { (H.told host.new).vcpus ≡ image.now.vcpus }
+    ensures hosted { (H.told host.new).vcpus ≡ image.now.header.vcpus }
 {
     for i in 0..image.vcpus() {
         let seat = &mut seats[usize::from(i)];
-        visit(image.code(), budget, seat, host, order)?;
+        visit(budget, seat, host, order)?;
     }
     Ok(())
 }
@@ -91,8 +92,6 @@ pub fn run_rounds<H: Host>(
     budget: u64,
     host: &mut H,
 ) -> Result<Finished, OutOfMemory>
-    requires some { 1 ≤ image.now.vcpus }
-    requires few { image.now.vcpus ≤ 8 }
     ensures ran { IsTelling (H.told host.old) → IfOk result (λ f. RanRounds image.now budget input.items f (H.told host.new)) }
 {
     host.start(image.vcpus(), input)?;

@@ -1,7 +1,8 @@
 // A vCPU with its page.
 ghost use Rattle.std.specs.Prelude.{◌≡◌, ◌<◌, OnOk};
-ghost use Rattle.ghcb_cli.specs.Plain.{Imaged, Machine, visit_where};
-ghost use Rattle.ghcb_cli.specs.Guest.{Stop as AStop};
+ghost use Rattle.image_file.specs.Image.{Contents};
+ghost use Rattle.guest_interp.specs.Stepping.{Standstill};
+ghost use Rattle.ghcb_cli.specs.Plain.{Machine, visit_where};
 ghost use Rattle.ghcb_cli.specs.Standing.{IsAt, Tells, stop_then};
 
 use crate::law::both_ends;
@@ -21,14 +22,13 @@ pub struct Seat {
 /// Gives a vCPU one item if it waits: its page is served, the reply is taken, and it goes on to its
 /// next stop.
 pub fn visit<H: Host>(
-    code: &[u8],
     budget: u64,
     seat: &mut Seat,
     host: &mut H,
     order: &mut Vec<Turn>,
 ) -> Result<(), OutOfMemory>
     requires known { seat.old.vcpu.number < (H.told host.old).vcpus }
-    ensures ok { (image : Imaged) (m : Machine) (stop : AStop) → image.code ≡ code.now → IsAt seat.old.vcpu.number seat.old stop → Tells (H.told host.old) order.old.items m
+    ensures ok { (image : Contents) (m : Machine) (stop : Standstill) → IsAt seat.old.vcpu.number seat.old stop → Tells (H.told host.old) order.old.items m
         → OnOk result (IsAt seat.old.vcpu.number seat.new (stop_then image budget seat.old.vcpu.number stop m.devices)
         × Tells (H.told host.new) order.new.items (visit_where image budget seat.old.vcpu.number (Some stop) m)) }
     ensures number { seat.new.vcpu.number ≡ seat.old.vcpu.number }
@@ -41,8 +41,8 @@ pub fn visit<H: Host>(
             vcpu: seat.vcpu.number,
             count: event.count(),
         })?;
-        seat.vcpu.resume(code, &mut seat.page);
-        seat.vcpu.proceed(code, &mut seat.page, budget);
+        seat.vcpu.resume(&mut seat.page);
+        seat.vcpu.proceed(&mut seat.page, budget);
     }
     Ok(())
 }

@@ -3,6 +3,7 @@
 use crate::{MemFiles, MemSink, Refused, Vc, ghcb_main};
 use event_table::{Access, End, Event, Turn};
 use host_events::{Host, Hypervisor};
+use image_file::ImageFault;
 use page_words::{Word, Words};
 use std::alloc::Global;
 use std::test::Fail;
@@ -101,40 +102,92 @@ fn words_outside_the_grammar_get_the_usage_line(rt: HostRuntime) -> Result<(), F
     Ok(())
 }
 
+/// What a run of this image file says, and what it writes.
+fn told_of<R: Threads + Sync>(
+    rt: &R,
+    alloc: Global,
+    image: &[u8],
+    line: &[u8],
+) -> Result<(u8, Option<Refused>, bool), Fail> {
+    let mut files = MemFiles::new(alloc);
+    files.add("image", image)?;
+    let mut out = MemSink::new(alloc, 100)?;
+    let words = ["run", "image", "input", "9"];
+    let (status, refused) = says(rt, alloc, &words, &mut files, &mut out)?;
+    Ok((status, refused, out.written() == line))
+}
+
 #[test]
-fn images_of_another_form_are_refused(rt: HostRuntime) -> Result<(), Fail> {
+fn images_that_break_a_rule_are_refused(rt: HostRuntime) -> Result<(), Fail> {
     let alloc = rt.alloc();
-    for (at, byte) in [
-        (0, 0x48),
-        (8, 2),
-        (13, 0x11),
-        (16, 8),
-        (16, 0),
-        (20, 1),
-        (24, 1),
-        (63, 1),
-    ] {
+    let rows: [(usize, u8, usize, Refused, &[u8]); 7] = [
+        (
+            0,
+            0x48,
+            73,
+            Refused::Image(ImageFault::BadMagic),
+            b"refused image 2\n",
+        ),
+        (
+            0,
+            0x47,
+            63,
+            Refused::Image(ImageFault::Truncated),
+            b"refused image 1\n",
+        ),
+        (
+            8,
+            0,
+            73,
+            Refused::Image(ImageFault::BadCount),
+            b"refused image 3\n",
+        ),
+        (
+            12,
+            1,
+            73,
+            Refused::Image(ImageFault::BadRam),
+            b"refused image 4\n",
+        ),
+        (
+            0,
+            0x47,
+            72,
+            Refused::Image(ImageFault::Truncated),
+            b"refused image 1\n",
+        ),
+        (
+            0,
+            0x47,
+            74,
+            Refused::Image(ImageFault::TooLong),
+            b"refused image 11\n",
+        ),
+        (8, 2, 73, Refused::NotYet, b"refused not-yet\n"),
+    ];
+    for (at, byte, len, refused, line) in rows {
         let mut image = image_file(alloc, &HELLO)?;
         if let Some(slot) = image.get_mut(at) {
             *slot = byte;
         }
-        let mut files = MemFiles::new(alloc);
-        files.add("image", &image)?;
-        let mut out = MemSink::new(alloc, 100)?;
-        let words = ["run", "image", "input", "9"];
+        image.resize(len, 0)?;
         assert_eq!(rt;
-            says(&rt, alloc, &words, &mut files, &mut out)?,
-            (3, Some(Refused::NotYet))
+            told_of(&rt, alloc, &image, line)?,
+            (3, Some(refused), true)
         );
-        assert_eq!(rt; out.written(), b"refused not-yet\n".as_slice());
     }
     Ok(())
 }
 
 #[test]
-fn bytes_that_spell_nothing_end_the_vcpu_at_no_steps(rt: HostRuntime) -> Result<(), Fail> {
+fn code_that_is_no_instruction_ends_the_vcpu_at_no_steps(rt: HostRuntime) -> Result<(), Fail> {
     let alloc = rt.alloc();
-    for code in [&[0x90u8][..], &[0xB0], &[0xBA, 0, 0, 0]] {
+    // PUSH ES isn't valid in 64-bit mode, and of the two MOV bytes are missing.
+    for (code, end) in [
+        (&[0x06u8][..], End::Undecoded),
+        (&[0xB0], End::BadAddress(1)),
+        (&[0xBA, 0, 0, 0], End::BadAddress(4)),
+    ] {
         let words = words_of(alloc, &["run", "image", "input", "9"])?;
         let mut files = folder(alloc, code)?;
         let mut out = MemSink::new(alloc, 0)?;
@@ -142,7 +195,57 @@ fn bytes_that_spell_nothing_end_the_vcpu_at_no_steps(rt: HostRuntime) -> Result<
         let done = ghcb_main(&rt, alloc, &words, &mut files, &mut out, &mut host);
         assert_eq!(rt; done.status, 0);
         assert_eq!(rt; done.steps.as_slice(), [0].as_slice());
-        assert_eq!(rt; done.ends.as_slice(), [End::Undecoded].as_slice());
+        assert_eq!(rt; done.ends.as_slice(), [end].as_slice());
+    }
+    Ok(())
+}
+
+/// A guest, and what its run is to leave with 100 steps at most: the output, the steps and the end.
+type Row<'a> = (&'a [u8], &'a [u8], u64, End);
+
+#[test]
+fn guests_run_to_their_ends(rt: HostRuntime) -> Result<(), Fail> {
+    let alloc = rt.alloc();
+    let rows: [Row; 5] = [
+        // XOR EAX, EAX; MOV ECX, 3; ADD EAX, ECX; DEC ECX; JNE -6; ADD EAX, 3Ch; MOV EDX, 3F8h; OUT DX, AL; HLT
+        (
+            &[
+                0x31, 0xC0, 0xB9, 3, 0, 0, 0, 0x01, 0xC8, 0xFF, 0xC9, 0x75, 0xFA, 0x83, 0xC0, 0x3C,
+                0xBA, 0xF8, 3, 0, 0, 0xEE, 0xF4,
+            ],
+            b"B",
+            15,
+            End::Halted,
+        ),
+        // MOV RAX, 1122334455667788h; MOV EDX, 3F8h; OUT DX, AL; HLT
+        (
+            &[
+                0x48, 0xB8, 0x88, 0x77, 0x66, 0x55, 0x44, 0x33, 0x22, 0x11, 0xBA, 0xF8, 3, 0, 0,
+                0xEE, 0xF4,
+            ],
+            b"\x88",
+            4,
+            End::Halted,
+        ),
+        // MOV EAX, without two bytes of its number
+        (&[0xB8, 1], b"", 0, End::BadAddress(2)),
+        // JMP to itself
+        (&[0xEB, 0xFE], b"", 100, End::Spent),
+        // NOP; IN AL, DX, which isn't shown to a host yet
+        (&[0x90, 0xEC], b"", 1, End::Undecoded),
+    ];
+    for (code, output, steps, end) in rows {
+        let words = words_of(alloc, &["run", "image", "input", "100"])?;
+        let mut files = folder(alloc, code)?;
+        let mut out = MemSink::new(alloc, 1)?;
+        let mut host = Hypervisor::new(alloc);
+        let done = ghcb_main(&rt, alloc, &words, &mut files, &mut out, &mut host);
+        assert_eq!(rt; done.status, 0);
+        assert_eq!(rt; out.written(), output);
+        assert_eq!(rt; done.steps.as_slice(), [steps].as_slice());
+        assert_eq!(rt; done.ends.as_slice(), [end].as_slice());
+        let turns = [Turn { vcpu: 0, count: 1 }];
+        assert_eq!(rt; done.order.as_slice(), &turns[..output.len().min(1)]);
     }
     Ok(())
 }

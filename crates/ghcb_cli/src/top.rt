@@ -12,13 +12,13 @@ ghost use Rattle.ghcb_cli.specs.declared.top.Ending.TheVariants as ending;
 ghost use Rattle.ghcb_cli.specs.Unready.{unready_of, Blames};
 
 use crate::command::{Command, name_at, parse, reading};
-use crate::image::Image;
 use crate::read_whole::{ReadError, read_whole};
 use crate::rounds::run_rounds;
 use crate::run_io::outside::{Files, Sink};
 use crate::text::{Refused, usage};
 use event_table::{End, Finished, Turn};
 use host_events::Host;
+use image_file::{Image, ImageError};
 use show_text::Text;
 use std::alloc::Global;
 use std::thread::Threads;
@@ -49,7 +49,6 @@ fn unread(error: ReadError) -> Unready
 // The image in a file, or why there is none.
 fn image_of<F: Files>(alloc: Global, files: &mut F, name: &str) -> Result<Image, Unready>
     ensures image { IfOk result (λ image. IfSome (F.told files.old).folder (λ folder. option_map image_in (folder name.now) ≡ Some (Ok image))) }
-    ensures one { IfOk result (λ image. image.vcpus ≡ 1) }
     ensures refused { IfErr result (λ e. Blames e
         (λ r. IfSome (F.told files.old).folder (λ folder. option_map image_in (folder name.now) ≡ Some (Err r))) (Rose (F.told files.old).faults (F.told files.new).faults)) }
     ensures folder { (F.told files.new).folder ≡ (F.told files.old).folder }
@@ -63,9 +62,10 @@ fn image_of<F: Files>(alloc: Global, files: &mut F, name: &str) -> Result<Image,
         return Err(Unready::Refused(Refused::ImageLimit));
     }
     match Image::read(alloc, &bytes) {
-        Ok(Some(image)) => Ok(image),
-        Ok(None) => Err(Unready::Refused(Refused::NotYet)),
-        Err(_) => Err(Unready::OutOfMemory),
+        Ok(image) if image.vcpus() > 1 => Err(Unready::Refused(Refused::NotYet)),
+        Ok(image) => Ok(image),
+        Err(ImageError::Fault(fault)) => Err(Unready::Refused(Refused::Image(fault))),
+        Err(ImageError::OutOfMemory) => Err(Unready::OutOfMemory),
     }
 }
 
@@ -112,7 +112,6 @@ fn ready_of<F: Files>(
     input: &str,
 ) -> Result<Ready, Unready>
     ensures image { IfOk result (λ r. IfSome (F.told files.old).folder (λ folder. option_map image_in (folder image.now) ≡ Some (Ok r.image))) }
-    ensures one { IfOk result (λ r. r.image.vcpus ≡ 1) }
     ensures input { IfOk result (λ r. IfSome (F.told files.old).folder (λ folder. option_map input_in (folder input.now) ≡ Some (Ok r.input.items))) }
     ensures refused { IfErr result (λ e. Blames e
         (λ r. IfSome (F.told files.old).folder (λ folder. IsRefusal r (option_map image_in (folder image.now)) (option_map input_in (folder input.now))))
@@ -131,7 +130,6 @@ fn run_ready<S: Sink, H: Host>(
     out: &mut S,
     host: &mut H,
 ) -> Ending
-    requires one { ready.image.vcpus ≡ 1 }
     ensures ends { RunEndsAs ready.image ready.input.items steps (H.told host.old) (H.told host.new) (S.told out.old) (S.told out.new) result }
 {
     let Ready { image, input } = ready;

@@ -1,6 +1,6 @@
 -- What the answer on the first 15 bytes says of all bytes.
 use Rattle.std.proofs.Common.{◌≡◌, ℕ, zero, suc, ◌-◌, ◌<◌, ◌≤◌, true, false, List, [], ◌∷◌, ◌++◌, length, take, drop, Result, Ok, Err, refl, sym, ap, ◌∙◌, subst, inl, inr, arith, append_assoc, length-append}
-use Rattle.std.specs.Prelude.{◌↔◌, IfOk, nat_lt}
+use Rattle.std.specs.Prelude.{◌↔◌, IfOk, OnOk, nat_lt}
 use Rattle.std.proofs.lemmas.Bool.{ltb-false, ltb-true, le-ltb, lt-ltb}
 use Rattle.std.proofs.lemmas.List.{take-append-drop, length-take, take_all}
 use Rattle.std.proofs.Math.Nat.{sub-zero}
@@ -11,7 +11,7 @@ use Rattle.insn_decode.specs.declared.fault.DecodeFault.{DecodeFault}
 use Rattle.insn_decode.specs.declared.fault.DecodeFault.TheVariants.{TooLong, Short, Undecoded}
 use Rattle.x86_base.specs.Spelling.{Begins, BeginsSpelling}
 use Rattle.insn_decode.specs.Refusals.{IsTooLong, IsShort, SpellsNothing}
-use Rattle.insn_decode.specs.Reading.{instruction_at, decoded}
+use Rattle.insn_decode.specs.Reading.{instruction_at, decoded, filled}
 use Rattle.insn_decode.proofs.Tests.{bool_cases}
 use Rattle.insn_decode.proofs.Whole.{Found, instruction_found, instruction_again, instruction_ends, begins_ends}
 
@@ -48,6 +48,10 @@ if_ok (Err e) h = tt
 
 pub found : (bytes : List ℕ) → IfOk (answer bytes) (Begins bytes)
 found bytes = if_ok {P = Begins bytes} (answer bytes) (λ insn e. begins bytes insn (instruction_found (take 15 bytes) insn (ok_only (length bytes) (instruction_at (take 15 bytes)) insn e)))
+
+pub found_filled : {A : Type 0} (r : Result A DecodeFault) (bytes : List ℕ) (insn : Insn) → filled r insn ≡ answer bytes → OnOk r (Begins bytes insn)
+found_filled (Ok done) bytes insn e = subst (λ (r : Result Insn DecodeFault). IfOk r (Begins bytes)) (sym e) (found bytes)
+found_filled (Err fault) bytes insn e = tt
 
 pub only : (bytes : List ℕ) (insn : Insn) → Begins bytes insn → answer bytes ≡ Ok insn
 only bytes insn b =

@@ -22,6 +22,11 @@ abbrev pub Gives : {X Y : Type 0} → (X → Y) → Result X Refusal → Result 
 Gives view (Ok x) read = read ≡ Ok (view x)
 Gives view (Err e) read = read ≡ Err e
 
+-- what a function of the code returned that puts what it finds in its place
+abbrev pub filled : {A X E : Type 0} → Result A E → X → Result X E
+filled (Ok _) x = Ok x
+filled (Err e) x = Err e
+
 abbrev pub start : Context
 start = record { size = false; rep = false; rex = None }
 
@@ -73,3 +78,7 @@ abbrev pub decoded : ℕ → Result Insn Refusal → Result Insn DecodeFault
 decoded len (Ok insn) = Ok insn
 decoded len (Err End) = if nat_lt len 15 then Err Short else Err TooLong
 decoded len (Err Never) = Err Undecoded
+
+-- what all bytes are read as: the instruction at their front, or why there is none
+unfoldable pub decode_of : List ℕ → Result Insn DecodeFault
+decode_of bytes = decoded (length bytes) (instruction_at (take 15 bytes))

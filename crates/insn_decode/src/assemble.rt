@@ -36,19 +36,17 @@ fn source_width(context: &Context, row: &Row) -> Width
     }
 }
 
-/// The instruction of a row, the bytes behind its opcode and the number of all bytes.
+/// Puts the instruction of a row, the bytes behind its opcode and the number of all bytes in its place.
 #[tactic(auto, unfolding(x86_base::specs::Operands::insn_of))]
-pub fn insn(context: &Context, row: &Row, tail: &[u8], len: u8) -> Insn
+pub fn insn(context: &Context, row: &Row, tail: &[u8], len: u8, into: &mut Insn)
     requires { IsTail context.now row.now tail.now }
-    ensures { result ≡ insn_of context.now row.now tail.now len }
+    ensures { into.new ≡ insn_of context.now row.now tail.now len }
 {
-    Insn {
-        op: operation(row.ops, modrm_byte(row, tail) / 8 % 8).unwrap_or(Op::Nop),
-        width: width(context, row.width),
-        source_width: source_width(context, row),
-        dst: destination(context, row, tail),
-        src: source(context, row, tail),
-        rep: context.rep,
-        len,
-    }
+    into.op = operation(row.ops, modrm_byte(row, tail) / 8 % 8).unwrap_or(Op::Nop);
+    into.width = width(context, row.width);
+    into.source_width = source_width(context, row);
+    destination(context, row, tail, &mut into.dst);
+    source(context, row, tail, &mut into.src);
+    into.rep = context.rep;
+    into.len = len;
 }

@@ -18,5 +18,5 @@ mod registers;
 mod sizes;
 mod table;
 
-pub use decoder::decode;
+pub use decoder::{NOP, decode, decode_into};
 pub use fault::DecodeFault;

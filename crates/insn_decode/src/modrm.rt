@@ -42,14 +42,14 @@ fn memory_operand(context: &Context, tail: &[u8]) -> MemRef
 
 /// The operand of the ModRM byte's mod and r/m bits.
 #[tactic(auto, unfolding(x86_base::specs::Operands::rm_operand))]
-pub fn rm(context: &Context, narrow: bool, tail: &[u8]) -> Operand
+pub fn rm(context: &Context, narrow: bool, tail: &[u8], into: &mut Operand)
     requires { HasAddress tail.now }
-    ensures { result ≡ rm_operand context.now narrow tail.now }
+    ensures { into.new ≡ rm_operand context.now narrow tail.now }
 {
     let modrm = byte_at(tail, 0);
     if modrm / 64 == 3 {
-        register_operand(context, narrow, modrm % 8 + 8 * rex_bit_of(context, 0))
+        *into = register_operand(context, narrow, modrm % 8 + 8 * rex_bit_of(context, 0));
     } else {
-        Operand::Memory(memory_operand(context, tail))
+        *into = Operand::Memory(memory_operand(context, tail));
     }
 }

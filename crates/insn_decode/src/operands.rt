@@ -10,8 +10,9 @@ use crate::sizes::{byte_at, imm_bytes, imm_start, modrm_byte};
 use x86_base::row::{Context, Form, Row, RowWidth};
 use x86_base::{Operand, Reg};
 
-/// The immediate, with its sign.
+/// The immediate, with its sign. It is inlined, since the row would else be kept in memory for it.
 #[tactic(auto, unfolding(x86_base::specs::Operands::immediate))]
+#[inline(always)]
 fn immediate_operand(context: &Context, row: &Row, tail: &[u8]) -> Operand
     requires { IsTail context.now row.now tail.now }
     ensures { result ≡ immediate context.now row.now tail.now }
@@ -37,50 +38,54 @@ fn has_byte_width(width: RowWidth) -> bool
     matches!(width, RowWidth::B)
 }
 
-/// The first operand.
+/// Puts the first operand in its place.
 #[tactic(auto, unfolding(x86_base::specs::Operands::dst_of))]
-pub fn destination(context: &Context, row: &Row, tail: &[u8]) -> Operand
+pub fn destination(context: &Context, row: &Row, tail: &[u8], into: &mut Operand)
     requires { IsTail context.now row.now tail.now }
-    ensures { result ≡ dst_of context.now row.now tail.now row.now.form }
+    ensures { into.new ≡ dst_of context.now row.now tail.now row.now.form }
 {
     let narrow = has_byte_width(row.width);
     match row.form {
-        Form::RmReg | Form::Rm | Form::RmOne | Form::RmCl => rm(context, narrow, tail),
-        Form::RmImm | Form::RmCount | Form::RmImmOfTest => rm(context, narrow, tail),
-        Form::RegRm => reg_from_modrm(context, narrow, tail),
+        Form::RmReg | Form::Rm | Form::RmOne | Form::RmCl => rm(context, narrow, tail, into),
+        Form::RmImm | Form::RmCount | Form::RmImmOfTest => rm(context, narrow, tail, into),
+        Form::RegRm => *into = reg_from_modrm(context, narrow, tail),
         Form::RegRmByte | Form::RegRmWord | Form::RegRmDouble | Form::RegAddress => {
-            reg_from_modrm(context, false, tail)
+            *into = reg_from_modrm(context, false, tail);
         }
-        Form::AccImm | Form::AccPort | Form::AccDx => Operand::Whole(Reg::Rax),
-        Form::PortAcc => byte_operand(row, tail),
-        Form::DxAcc => Operand::Whole(Reg::Rdx),
-        Form::OpcodeImm(low) => reg_from_opcode(context, narrow, low),
-        Form::Opcode(low) => reg_from_opcode(context, false, low),
-        Form::Immediate => immediate_operand(context, row, tail),
-        Form::RmIgnored | Form::Nothing => Operand::Absent,
+        Form::AccImm | Form::AccPort | Form::AccDx => *into = Operand::Whole(Reg::Rax),
+        Form::PortAcc => *into = byte_operand(row, tail),
+        Form::DxAcc => *into = Operand::Whole(Reg::Rdx),
+        Form::OpcodeImm(low) => *into = reg_from_opcode(context, narrow, low),
+        Form::Opcode(low) => *into = reg_from_opcode(context, false, low),
+        Form::Immediate => *into = immediate_operand(context, row, tail),
+        Form::RmIgnored | Form::Nothing => *into = Operand::Absent,
     }
 }
 
-/// The second operand.
+/// Puts the second operand in its place.
 #[tactic(auto, unfolding(x86_base::specs::Operands::src_of))]
-pub fn source(context: &Context, row: &Row, tail: &[u8]) -> Operand
+pub fn source(context: &Context, row: &Row, tail: &[u8], into: &mut Operand)
     requires { IsTail context.now row.now tail.now }
-    ensures { result ≡ src_of context.now row.now tail.now row.now.form }
+    ensures { into.new ≡ src_of context.now row.now tail.now row.now.form }
 {
     let narrow = has_byte_width(row.width);
     match row.form {
-        Form::RmReg => reg_from_modrm(context, narrow, tail),
-        Form::RegRm => rm(context, narrow, tail),
-        Form::RegRmByte => rm(context, true, tail),
-        Form::RegRmWord | Form::RegRmDouble | Form::RegAddress => rm(context, false, tail),
-        Form::RmOne => Operand::Imm(1),
-        Form::RmCl => Operand::Whole(Reg::Rcx),
-        Form::RmImm | Form::AccImm | Form::OpcodeImm(_) => immediate_operand(context, row, tail),
-        Form::RmCount | Form::AccPort => byte_operand(row, tail),
-        Form::RmImmOfTest if byte_at(tail, 0) / 8 % 8 == 0 => immediate_operand(context, row, tail),
-        Form::PortAcc | Form::DxAcc => Operand::Whole(Reg::Rax),
-        Form::AccDx => Operand::Whole(Reg::Rdx),
-        Form::RmImmOfTest | Form::Rm | Form::RmIgnored => Operand::Absent,
-        Form::Opcode(_) | Form::Immediate | Form::Nothing => Operand::Absent,
+        Form::RmReg => *into = reg_from_modrm(context, narrow, tail),
+        Form::RegRm => rm(context, narrow, tail, into),
+        Form::RegRmByte => rm(context, true, tail, into),
+        Form::RegRmWord | Form::RegRmDouble | Form::RegAddress => rm(context, false, tail, into),
+        Form::RmOne => *into = Operand::Imm(1),
+        Form::RmCl => *into = Operand::Whole(Reg::Rcx),
+        Form::RmImm | Form::AccImm | Form::OpcodeImm(_) => {
+            *into = immediate_operand(context, row, tail);
+        }
+        Form::RmCount | Form::AccPort => *into = byte_operand(row, tail),
+        Form::RmImmOfTest if byte_at(tail, 0) / 8 % 8 == 0 => {
+            *into = immediate_operand(context, row, tail);
+        }
+        Form::PortAcc | Form::DxAcc => *into = Operand::Whole(Reg::Rax),
+        Form::AccDx => *into = Operand::Whole(Reg::Rdx),
+        Form::RmImmOfTest | Form::Rm | Form::RmIgnored => *into = Operand::Absent,
+        Form::Opcode(_) | Form::Immediate | Form::Nothing => *into = Operand::Absent,
     }
 }

@@ -1,6 +1,6 @@
 //! Reading an instruction from left to right.
 ghost use Rattle.std.specs.Prelude.{◌≡◌, ◌≤◌, length};
-ghost use Rattle.insn_decode.specs.Reading.{Gives, start, prefixes_at, rex_at, chosen, second_at, third_at, opcode_at, tail_at, instruction_at};
+ghost use Rattle.insn_decode.specs.Reading.{Gives, filled, start, prefixes_at, rex_at, chosen, second_at, third_at, opcode_at, tail_at, instruction_at};
 
 use crate::assemble::insn;
 use crate::context::is_allowed;
@@ -133,15 +133,22 @@ fn tail<'a>(context: &Context, row: &Row, bytes: &'a [u8]) -> Result<(&'a [u8], 
     Ok(bytes.split_at(len))
 }
 
-/// The instruction at the front of at most 15 bytes.
+/// Puts the instruction at the front of at most 15 bytes in its place.
 #[tactic(auto, unfolding(crate::specs::Reading::instruction_at))]
-pub fn instruction(window: &[u8]) -> Result<Insn, Refusal>
+pub fn instruction(window: &[u8], into: &mut Insn) -> Result<(), Refusal>
     requires { length window.now ≤ 15 }
-    ensures { Gives (λ x. x) result (instruction_at window.now) }
+    ensures { filled result into.new ≡ instruction_at window.now }
 {
     let (context, rest) = prefixes(window);
     let (context, rest) = rex(context, rest);
     let (row, rest) = opcode(&context, rest)?;
     let (tail, rest) = tail(&context, &row, rest)?;
-    Ok(insn(&context, &row, tail, (window.len() - rest.len()) as u8))
+    insn(
+        &context,
+        &row,
+        tail,
+        (window.len() - rest.len()) as u8,
+        into,
+    );
+    Ok(())
 }

@@ -7,3 +7,4 @@ pub mod ModRm
 pub mod Numbers
 pub mod Operands
 pub mod Spelling
+pub mod Widths

@@ -65,3 +65,8 @@ pub record Begins (bytes : List ℕ) (insn : Insn) : Type 0 where
   pub split : bytes ≡ front ++ rest
   pub short : length front ≤ 15
   pub spelled : Spells front insn
+
+-- the instruction has a spelling
+pub record IsSpelled (insn : Insn) : Type 0 where
+  pub bytes : List ℕ
+  pub spelled : Spells bytes insn

@@ -1,4 +1,4 @@
-use Rattle.std.proofs.Common.{◌≡◌, suc, ◌+◌, ◌<◌, ◌∙◌, sym, subst, arith, length, get_or}
+use Rattle.std.proofs.Common.{◌≡◌, suc, ◌+◌, ◌<◌, ◌∙◌, subst, arith, length, get_or}
 use Rattle.std.specs.Prelude.{slice_set}
 use Rattle.std.proofs.lemmas.Option.{slice_get-get_or}
 use Rattle.ghcb_cli.specs.Plain.{Machine, visit, visits}
@@ -40,7 +40,7 @@ loop-i-preserved g c =
           let before : Machine = visits image budget c.loop-i.i m in
           let after : Stands (slice_set seats k next) (told c.visit.new.host) c.visit.new.order.items (visit image budget k before) =
           stands_visit image budget k before seats seat next (told c.loop-i.host) (told c.visit.new.host) c.loop-i.order.items c.visit.new.order.items
-          (c.loop-i.invariant.stands m stands) at (is ∙ zeroth) c.in_ok-visit.ensures.number (λ stop there tells. c.in_ok-visit.ensures.ok image before stop (sym c.code.ensures.code) there tells) in
+          (c.loop-i.invariant.stands m stands) at (is ∙ zeroth) c.in_ok-visit.ensures.number (λ stop there tells. c.in_ok-visit.ensures.ok image before stop there tells) in
           subst (λ n. Stands (slice_set seats k next) (told c.visit.new.host) c.visit.new.order.items (visits image budget n m)) one
           (subst (λ n. Stands (slice_set seats k next) (told c.visit.new.host) c.visit.new.order.items (visit image budget n before)) c.from.ensures after);
     }

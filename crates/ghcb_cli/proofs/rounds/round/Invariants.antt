@@ -7,6 +7,6 @@ use Rattle.ghcb_cli.proofs.rounds.round.Given as goal
 abbrev pub invariant-loop-i : goal.invariant-loop-i
 invariant-loop-i g l = record {
   numbered : AreNumbered 0 l.seats;
-  hosted : (g.H.Host.told l.host).vcpus ≡ l.image.vcpus;
+  hosted : (g.H.Host.told l.host).vcpus ≡ l.image.header.vcpus;
   stands : (m : Machine) → Stands l.fn.seats (g.H.Host.told l.fn.host) l.fn.order.items m → Stands l.seats (g.H.Host.told l.host) l.order.items (visits l.image l.budget l.i m);
 }

@@ -15,8 +15,8 @@ loop-done-init g c =
     let told = g.H.Host.told in
     let image = c.args.image.now in
     let seats = c.in_ok-seats.seats.items in
-    let starts : told c.start.new.self ≡ started image.vcpus c.args.input.items (told c.args.host.now) =
-    subst (λ vcpus. told c.start.new.self ≡ started vcpus c.args.input.items (told c.args.host.now)) c.vcpus.ensures.vcpus c.in_ok-start.ensures.ok in
+    let starts : told c.start.new.self ≡ started image.header.vcpus c.args.input.items (told c.args.host.now) =
+    subst (λ vcpus. told c.start.new.self ≡ started vcpus c.args.input.items (told c.args.host.now)) c.vcpus.ensures.value c.in_ok-start.ensures.ok in
     record {
       many = c.in_ok-seats.ensures.many;
       numbered = numbered_at 0 seats _ c.in_ok-seats.ensures.at;

@@ -9,16 +9,16 @@ use Rattle.insn_decode.proofs.Window.{found, only, too_long, short, undecoded}
 use Rattle.insn_decode.proofs.decoder.decode.Goals as goal
 
 pub returns-clause-found : goal.returns-clause-found
-returns-clause-found c = subst (λ (r : Result Insn DecodeFault). IfOk r (Begins c.args.bytes.now)) (sym c.decode_window.ensures) (found c.args.bytes.now)
+returns-clause-found c = subst (λ (r : Result Insn DecodeFault). IfOk r (Begins c.args.bytes.now)) (sym c.decode_whole.ensures) (found c.args.bytes.now)
 
 pub returns-clause-only : goal.returns-clause-only
-returns-clause-only c = λ insn b. c.decode_window.ensures ∙ only c.args.bytes.now insn b
+returns-clause-only c = λ insn b. c.decode_whole.ensures ∙ only c.args.bytes.now insn b
 
 pub returns-clause-too_long : goal.returns-clause-too_long
-returns-clause-too_long c = subst (λ (r : Result Insn DecodeFault). (r ≡ Err TooLong) ↔ IsTooLong c.args.bytes.now) (sym c.decode_window.ensures) (too_long c.args.bytes.now)
+returns-clause-too_long c = subst (λ (r : Result Insn DecodeFault). (r ≡ Err TooLong) ↔ IsTooLong c.args.bytes.now) (sym c.decode_whole.ensures) (too_long c.args.bytes.now)
 
 pub returns-clause-short : goal.returns-clause-short
-returns-clause-short c = subst (λ (r : Result Insn DecodeFault). (r ≡ Err Short) ↔ IsShort c.args.bytes.now) (sym c.decode_window.ensures) (short c.args.bytes.now)
+returns-clause-short c = subst (λ (r : Result Insn DecodeFault). (r ≡ Err Short) ↔ IsShort c.args.bytes.now) (sym c.decode_whole.ensures) (short c.args.bytes.now)
 
 pub returns-clause-undecoded : goal.returns-clause-undecoded
-returns-clause-undecoded c = subst (λ (r : Result Insn DecodeFault). (r ≡ Err Undecoded) ↔ SpellsNothing c.args.bytes.now) (sym c.decode_window.ensures) (undecoded c.args.bytes.now)
+returns-clause-undecoded c = subst (λ (r : Result Insn DecodeFault). (r ≡ Err Undecoded) ↔ SpellsNothing c.args.bytes.now) (sym c.decode_whole.ensures) (undecoded c.args.bytes.now)

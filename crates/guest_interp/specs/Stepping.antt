@@ -1,0 +1,119 @@
+-- The private step, and how far a vCPU goes by itself.
+use Rattle.std.specs.Prelude.{◌≡◌, ℕ, zero, suc, ◌+◌, ◌-◌, Bool, true, false, if◌then◌else◌, nat_lt, Some, Result, Ok, Err}
+use Rattle.x86_base.specs.declared.insn.Insn.{Insn}
+use Rattle.x86_base.specs.declared.stop.Stop.{Stop}
+use Rattle.x86_base.specs.declared.stop.Stop.TheVariants as stop
+use Rattle.insn_decode.specs.declared.fault.DecodeFault.{DecodeFault}
+use Rattle.insn_decode.specs.declared.fault.DecodeFault.TheVariants as fault
+use Rattle.insn_decode.specs.Reading.{decode_of}
+use Rattle.image_file.specs.Ram.{Memory, code_from}
+use Rattle.event_table.specs.declared.access.Access.{Access}
+use Rattle.event_table.specs.declared.access.Values.{Values}
+use Rattle.event_table.specs.declared.end.End.{End}
+use Rattle.event_table.specs.declared.end.End.TheVariants as ends
+use Rattle.event_table.specs.declared.event.Event.{Event}
+use Rattle.event_table.specs.declared.event.Event.TheVariants.{One}
+use Rattle.event_table.specs.Events.{event_plan, exit_of, vc_code}
+use Rattle.event_table.specs.Places.{Vcpu}
+use Rattle.event_table.specs.Plan.{Plan, Ends, Setting, setting, Stepped, Moved, Exits, Stops, stepped, asked, placed}
+use Rattle.guest_interp.specs.declared.stepping.Next.{Next}
+use Rattle.guest_interp.specs.declared.stepping.Next.TheVariants.{Went, Vc, Ended as Stopped}
+use Rattle.guest_interp.specs.Table.{private_of}
+
+-- what an instruction does: the event table's plan, or the private one
+abbrev pub plan_of : Insn → Setting → Plan
+plan_of i s = event_plan i s (private_of i s)
+
+-- how a vCPU ends that an instruction stops
+abbrev pub end_of : Stop → End
+end_of stop.Halted = ends.Halted
+end_of (stop.BadAddress at) = ends.BadAddress at
+end_of (stop.Fault vector) = ends.Fault vector
+
+-- what a private instruction comes to, by what the code returned and the vCPU then
+abbrev pub after : {A : Type 0} → Result A Stop → Vcpu → Stepped
+after (Ok _) v = Moved v
+after (Err stop) v = Stops (end_of stop) v
+
+-- the instruction exits for an access, with this exit code
+pub record IsExit (code : ℕ) (i : Insn) (v : Vcpu) : Type 0 where
+  pub access : Access
+  pub exits : stepped v (plan_of i (setting v i.len)) ≡ Exits access v
+  pub is_named : asked v (exit_of i (setting v i.len)) ≡ Some access
+  pub is_code : code ≡ vc_code access
+
+-- the instruction is over, or asks for an access with nothing changed, or ends the vCPU with nothing changed
+abbrev pub Comes : Next → Insn → Vcpu → Vcpu → Type 0
+Comes Went i v w = stepped v (plan_of i (setting v i.len)) ≡ Moved w
+Comes (Vc code) i v w = (w ≡ v) × IsExit code i v
+Comes (Stopped stop) i v w = (w ≡ v) × (stepped v (plan_of i (setting v i.len)) ≡ Stops (end_of stop) v)
+
+abbrev pub is_vc : Next → Bool
+is_vc (Vc code) = true
+is_vc _ = false
+
+-- The instruction at RIP, or the end where there is none: the first byte after the code is missing, or the
+-- one at RIP where it isn't below the code's end.
+abbrev pub fetched : ℕ → ℕ → Result Insn DecodeFault → Result Insn End
+fetched code rip (Ok insn) = Ok insn
+fetched code rip (Err fault.Short) = Err (ends.BadAddress (if nat_lt rip code then code else rip))
+fetched code rip (Err fault.TooLong) = Err ends.Undecoded
+fetched code rip (Err fault.Undecoded) = Err ends.Undecoded
+
+abbrev pub insn_at : Memory → ℕ → Result Insn End
+insn_at ram rip = fetched ram.code rip (decode_of (code_from ram rip))
+
+abbrev pub plan_by : Result Insn End → Vcpu → Plan
+plan_by (Ok insn) v = plan_of insn (setting v insn.len)
+plan_by (Err end) v = Ends end
+
+abbrev pub exit_by : Result Insn End → Vcpu → Plan
+exit_by (Ok insn) v = exit_of insn (setting v insn.len)
+exit_by (Err end) v = Ends ends.Undecoded
+
+-- one instruction of a vCPU
+unfoldable pub step_of : Vcpu → Stepped
+step_of v = stepped v (plan_by (insn_at v.ram v.regs.rip) v)
+
+-- how it goes on with the results of the access that its instruction asks
+unfoldable pub results_of : Values → Vcpu → Stepped
+results_of values v = placed values v (exit_by (insn_at v.ram v.regs.rip) v)
+
+-- a vCPU with the steps that it has counted
+pub record Counted : Type 0 where
+  pub vcpu : Vcpu
+  pub steps : ℕ
+
+abbrev pub at_count : Vcpu → ℕ → Counted
+at_count v steps = record { vcpu = v; steps = steps }
+
+-- the steps of an end: HLT counts its own
+abbrev pub counted : End → ℕ → ℕ
+counted ends.Halted steps = steps + 1
+counted _ steps = steps
+
+-- Where a vCPU stops: it waits for an event, or has ended.
+pub data Standstill : Type 0 where
+  Waits : (event : Event) → (vcpu : Counted) → Standstill
+  Ended : (end : End) → (vcpu : Counted) → Standstill
+
+-- where it stops after an instruction, if `more` tells where one that moved on stops
+abbrev pub stop_after : ℕ → Stepped → (Counted → Standstill) → Standstill
+stop_after steps (Moved v) more = more (at_count v (steps + 1))
+stop_after steps (Exits access v) more = Waits (One access) (at_count v steps)
+stop_after steps (Stops end v) more = Ended end (at_count v (counted end steps))
+
+-- where it stops once an access is answered, which is one step
+abbrev pub stop_answered : ℕ → Stepped → (Counted → Standstill) → Standstill
+stop_answered steps (Moved v) more = more (at_count v (steps + 1))
+stop_answered steps (Exits access v) more = Waits (One access) (at_count v (steps + 1))
+stop_answered steps (Stops end v) more = Ended end (at_count v (counted end steps))
+
+-- where a vCPU stops by itself, with so many steps left: it ends where none is
+abbrev pub next_of : ℕ → Counted → Standstill
+next_of zero c = Ended ends.Spent c
+next_of (suc left) c = stop_after c.steps (step_of c.vcpu) (λ gone. next_of left gone)
+
+-- where it stops within its budget
+abbrev pub next_within : ℕ → Counted → Standstill
+next_within budget c = next_of (budget - c.steps) c

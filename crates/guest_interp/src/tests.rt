@@ -1,0 +1,309 @@
+// Short guests, instruction by instruction.
+use crate::{Next, fetch, step};
+use event_table::{Access, End, comes_later, named, place};
+use image_file::{Image, Ram};
+use std::alloc::Global;
+use std::test::Fail;
+use x86_base::{Flags, Reg, Regs, Stop};
+
+/// What a guest comes to after some instructions.
+#[derive(Drop)]
+struct Gone {
+    regs: Regs,
+    ram: Ram,
+    steps: u64,
+    end: Option<Stop>,
+}
+
+/// The RAM of one page that holds this code and zeros behind it.
+fn ram_of(alloc: Global, code: &[u8]) -> Result<Ram, Fail> {
+    let mut image = b"GHCBIMG1\x01\0\0\0\0\x10\0\0".to_vec(alloc)?;
+    image.push((code.len() & 0xFF) as u8)?;
+    image.resize(64, 0)?;
+    image.extend_from_slice(code)?;
+    match Image::read(alloc, &image) {
+        Ok(image) => Ok(image.ram(alloc)?),
+        Err(_) => Err(Fail::new("no image")),
+    }
+}
+
+/// Runs private instructions from address 0 on, at most `most`, with RSP at the end of RAM and a
+/// flags word.
+fn run(alloc: Global, code: &[u8], most: u64, word: u64) -> Result<Gone, Fail> {
+    let mut gone = Gone {
+        regs: Regs {
+            gpr: [0; 16],
+            rip: 0,
+            flags: Flags::from_word(word),
+        },
+        ram: ram_of(alloc, code)?,
+        steps: 0,
+        end: None,
+    };
+    gone.regs.gpr[Reg::Rsp as usize] = 0x1000;
+    for done in 0..most {
+        let Ok(insn) = fetch(&gone.regs, &gone.ram) else {
+            return Ok(gone);
+        };
+        if comes_later(&insn) {
+            return Ok(gone);
+        }
+        match step(&mut gone.regs, &mut gone.ram, &insn) {
+            Next::Went => gone.steps = done + 1,
+            Next::Vc(_) => return Ok(gone),
+            Next::Ended(stop) => {
+                gone.end = Some(stop);
+                return Ok(gone);
+            }
+        }
+    }
+    Ok(gone)
+}
+
+#[test]
+fn a_loop_adds_its_counter(rt: HostRuntime) -> Result<(), Fail> {
+    // XOR EAX, EAX; MOV ECX, 3; ADD EAX, ECX; DEC ECX; JNE -6; ADD EAX, 3Ch; HLT
+    let code = [
+        0x31, 0xC0, 0xB9, 3, 0, 0, 0, 0x01, 0xC8, 0xFF, 0xC9, 0x75, 0xFA, 0x83, 0xC0, 0x3C, 0xF4,
+    ];
+    let gone = run(rt.alloc(), &code, 100, 2)?;
+    assert_eq!(rt; gone.regs.get(Reg::Rax), 0x42);
+    assert_eq!(rt; gone.steps, 12);
+    assert_eq!(rt; gone.end, Some(Stop::Halted));
+    assert_eq!(rt; gone.regs.rip, 16);
+    Ok(())
+}
+
+#[test]
+fn a_call_returns_over_the_stack(rt: HostRuntime) -> Result<(), Fail> {
+    // CALL +4; PUSH RAX; POP RBX; PUSH RSP; HLT; MOV EAX, -1; RET
+    let code = [
+        0xE8, 4, 0, 0, 0, 0x50, 0x5B, 0x54, 0xF4, 0xB8, 0xFF, 0xFF, 0xFF, 0xFF, 0xC3,
+    ];
+    let gone = run(rt.alloc(), &code, 100, 2)?;
+    assert_eq!(rt; gone.end, Some(Stop::Halted));
+    assert_eq!(rt; gone.regs.get(Reg::Rbx), 0xFFFF_FFFF);
+    assert_eq!(rt; gone.regs.get(Reg::Rsp), 0xFF8);
+    assert_eq!(rt; gone.ram.read(0xFF8, 8).unwrap_or(0), 0x1000);
+    assert_eq!(rt; gone.steps, 6);
+    Ok(())
+}
+
+#[test]
+fn iretq_takes_its_selectors_alone(rt: HostRuntime) -> Result<(), Fail> {
+    // PUSH 16; PUSH RBX; PUSH 802h; PUSH 8 or 9; PUSH 14h; IRETQ; HLT
+    for (selector, end, rip) in [(8, Stop::Halted, 0x14), (9, Stop::Fault(13), 0xE)] {
+        let code = [
+            0x6A, 16, 0x53, 0x68, 2, 8, 0, 0, 0x6A, selector, 0x6A, 0x14, 0x90, 0x90, 0x48, 0xCF,
+            0xF4, 0xF4, 0xF4, 0xF4, 0xF4,
+        ];
+        let gone = run(rt.alloc(), &code, 100, 2)?;
+        assert_eq!(rt; gone.end, Some(end));
+        assert_eq!(rt; gone.regs.rip, rip);
+        let rsp = if selector == 8 { 0 } else { 0xFD8 };
+        assert_eq!(rt; gone.regs.get(Reg::Rsp), rsp);
+        assert_eq!(rt; gone.regs.flags.of, selector == 8);
+    }
+    Ok(())
+}
+
+#[test]
+fn moves_extend_their_sources(rt: HostRuntime) -> Result<(), Fail> {
+    // MOV EAX, 80808080h; MOVZX ECX, AL; MOVSX RDX, AX; MOVSXD RBX, EAX; MOVSX SI, AH; LEA RDI, [RAX+RCX*2-1]
+    let code = [
+        0xB8, 0x80, 0x80, 0x80, 0x80, 0x0F, 0xB6, 0xC8, 0x48, 0x0F, 0xBF, 0xD0, 0x48, 0x63, 0xD8,
+        0x66, 0x0F, 0xBE, 0xF4, 0x48, 0x8D, 0x7C, 0x48, 0xFF, 0xF4,
+    ];
+    let gone = run(rt.alloc(), &code, 100, 2)?;
+    assert_eq!(rt; gone.end, Some(Stop::Halted));
+    assert_eq!(rt; gone.regs.get(Reg::Rcx), 0x80);
+    assert_eq!(rt; gone.regs.get(Reg::Rdx), 0xFFFF_FFFF_FFFF_8080);
+    assert_eq!(rt; gone.regs.get(Reg::Rbx), 0xFFFF_FFFF_8080_8080);
+    assert_eq!(rt; gone.regs.get(Reg::Rsi), 0xFF80);
+    assert_eq!(rt; gone.regs.get(Reg::Rdi), 0x8080_817F);
+    Ok(())
+}
+
+#[test]
+fn an_operand_outside_ends_the_guest_as_it_was(rt: HostRuntime) -> Result<(), Fail> {
+    // A code, and the address that it ends with: a write of a code byte; an operand that leaves RAM; one in
+    // the page of devices; a push onto code; a compare of a code byte, which reads it alone.
+    let cases: [(&[u8], Option<Stop>); 5] = [
+        (
+            &[0x88, 0x04, 0x25, 6, 0, 0, 0, 0xF4],
+            Some(Stop::BadAddress(6)),
+        ),
+        (
+            &[0x8B, 0x04, 0x25, 0xFD, 0x0F, 0, 0, 0xF4],
+            Some(Stop::BadAddress(0xFFD)),
+        ),
+        (
+            &[0xB8, 0, 0, 0xB0, 0xFE, 0x8A, 0x00, 0xF4],
+            Some(Stop::BadAddress(0xFEB0_0000)),
+        ),
+        (&[0xBC, 10, 0, 0, 0, 0x53, 0xF4], Some(Stop::BadAddress(2))),
+        (&[0x38, 0x04, 0x25, 0, 0, 0, 0, 0xF4], Some(Stop::Halted)),
+    ];
+    for (code, end) in cases {
+        let gone = run(rt.alloc(), code, 100, 2)?;
+        assert_eq!(rt; gone.end, end);
+        assert_eq!(rt;
+            gone.ram.read(0, 2).unwrap_or(0),
+            u64::from(code[0]) + 0x100 * u64::from(code[1])
+        );
+    }
+    Ok(())
+}
+
+/// Whether a condition holds of CF, PF, ZF, SF and OF, as the manual's table says.
+fn holds(condition: u8, word: u64) -> bool {
+    let [cf, pf, zf, sf, of] = [0x001, 0x004, 0x040, 0x080, 0x800].map(|mask| word & mask != 0);
+    let yes = match condition / 2 {
+        0 => of,
+        1 => cf,
+        2 => zf,
+        3 => cf || zf,
+        4 => sf,
+        5 => pf,
+        6 => sf != of,
+        _ => zf || sf != of,
+    };
+    yes != (condition % 2 == 1)
+}
+
+#[test]
+fn each_condition_jumps_sets_and_moves(rt: HostRuntime) -> Result<(), Fail> {
+    let words = [2, 3, 6, 0x42, 0x43, 0x82, 0x802, 0x882, 0xC2, 0x842, 0x8C7];
+    for condition in 0..16u8 {
+        for word in words {
+            // SETcc BL; CMOVcc ECX, EBX; MOV DL, 1; Jcc +2; MOV DL, 0; HLT
+            let code = [
+                0x0F,
+                0x90 + condition,
+                0xC3,
+                0x0F,
+                0x40 + condition,
+                0xCB,
+                0xB2,
+                1,
+                0x70 + condition,
+                2,
+                0xB2,
+                0,
+                0xF4,
+            ];
+            let gone = run(rt.alloc(), &code, 100, word)?;
+            let want = u64::from(holds(condition, word));
+            assert_eq!(rt;
+                gone.regs.get(Reg::Rbx),
+                want,
+                "condition {condition} word {word:x}"
+            );
+            assert_eq!(rt;
+                gone.regs.get(Reg::Rcx),
+                want,
+                "condition {condition} word {word:x}"
+            );
+            assert_eq!(rt;
+                gone.regs.get(Reg::Rdx),
+                want,
+                "condition {condition} word {word:x}"
+            );
+        }
+    }
+    Ok(())
+}
+
+#[test]
+fn flags_are_set_and_cleared(rt: HostRuntime) -> Result<(), Fail> {
+    // CMC, CLC, STC, CLD, STD, NOP by their bytes: the flags word before and after
+    let cases = [
+        (0xF5, 2, 3),
+        (0xF5, 0x8C7, 0x8C6),
+        (0xF8, 0xCC7, 0xCC6),
+        (0xF9, 2, 3),
+        (0xFC, 0xCC7, 0x8C7),
+        (0xFD, 2, 0x402),
+        (0x90, 0xCC7, 0xCC7),
+    ];
+    for (byte, before, after) in cases {
+        let gone = run(rt.alloc(), &[byte, 0xF4], 100, before)?;
+        assert_eq!(rt; gone.regs.flags.to_word(), after, "byte {byte:x}");
+        assert_eq!(rt; gone.steps, 1);
+    }
+    Ok(())
+}
+
+#[test]
+fn an_out_of_a_byte_exits_with_its_byte_alone(rt: HostRuntime) -> Result<(), Fail> {
+    // MOV RAX, 1122334455667788h; OUT 40h, AL; and the same to DX
+    let codes: [(&[u8], u16, u64); 2] = [
+        (
+            &[
+                0x48, 0xB8, 0x88, 0x77, 0x66, 0x55, 0x44, 0x33, 0x22, 0x11, 0xE6, 0x40,
+            ],
+            0x40,
+            12,
+        ),
+        (
+            &[
+                0x48, 0xB8, 0x88, 0x77, 0x66, 0x55, 0x44, 0x33, 0x22, 0x11, 0xEE,
+            ],
+            0,
+            11,
+        ),
+    ];
+    for (code, port, next) in codes {
+        let mut gone = run(rt.alloc(), code, 100, 2)?;
+        assert_eq!(rt; gone.end, None);
+        assert_eq!(rt; gone.steps, 1);
+        let Ok(insn) = fetch(&gone.regs, &gone.ram) else {
+            return Err(Fail::new("no instruction"));
+        };
+        if comes_later(&insn) {
+            return Err(Fail::new("no access"));
+        }
+        let before = gone.regs;
+        assert_eq!(rt; step(&mut gone.regs, &mut gone.ram, &insn), Next::Vc(0x7B));
+        assert_eq!(rt; gone.regs, before);
+        let access = Access::Out {
+            port,
+            size: 1,
+            value: 0x88,
+        };
+        let Some(found) = named(&gone.regs, &gone.ram, &insn) else {
+            return Err(Fail::new("no access"));
+        };
+        assert_eq!(rt; found, access);
+        let values = event_table::Values {
+            a: 7,
+            c: 7,
+            d: 7,
+            b: 7,
+        };
+        place(&mut gone.regs, &mut gone.ram, &insn, &values);
+        assert_eq!(rt; gone.regs.rip, next);
+        assert_eq!(rt; gone.regs.gpr, before.gpr);
+    }
+    Ok(())
+}
+
+#[test]
+fn the_end_of_the_code_is_no_instruction(rt: HostRuntime) -> Result<(), Fail> {
+    // MOV EAX with one byte of its number; no opcode at all; RIP behind the code
+    let cases: [(&[u8], u64, End); 3] = [
+        (&[0xB8, 1], 0, End::BadAddress(2)),
+        (&[0x06, 0xF4], 0, End::Undecoded),
+        (&[0xF4], 0x900, End::BadAddress(0x900)),
+    ];
+    for (code, rip, end) in cases {
+        let ram = ram_of(rt.alloc(), code)?;
+        let regs = Regs {
+            gpr: [0; 16],
+            rip,
+            flags: Flags::from_word(2),
+        };
+        assert_eq!(rt; fetch(&regs, &ram).err(), Some(end));
+    }
+    Ok(())
+}
