@@ -1,65 +1,98 @@
--- The instructions that exit to the host, each as what the host sees of it and what comes back: the event table.
-use Rattle.std.specs.Prelude.{ℕ, ◌%◌, ◌^◌, Bool, true, false, if◌then◌else◌, [], ◌∷◌}
+-- The instructions that exit to the host, read off the event table: what the host sees of registers, and where the results go.
+use Rattle.std.specs.Prelude.{ℕ, ◌%◌, ◌^◌, Bool, true, false, if◌then◌else◌, List, [], ◌∷◌, Option, None, Some}
 use Rattle.x86_base.specs.declared.insn.Insn.{Insn}
 use Rattle.x86_base.specs.declared.insn.Operand.{Operand}
 use Rattle.x86_base.specs.declared.insn.Operand.TheVariants.{Imm}
 use Rattle.x86_base.specs.declared.op.Op.{Op}
 use Rattle.x86_base.specs.declared.op.Op.TheVariants as op
-use Rattle.x86_base.specs.declared.reg.Reg.TheVariants.{Rax, Rdx}
+use Rattle.x86_base.specs.declared.reg.Reg.{Reg}
+use Rattle.x86_base.specs.declared.reg.Reg.TheVariants.{Rax, Rcx, Rdx, Rbx}
 use Rattle.x86_base.specs.declared.reg.Width.{Width}
 use Rattle.x86_base.specs.declared.reg.Width.TheVariants.{B8, B16}
-use Rattle.x86_base.specs.Widths.{size_of}
 use Rattle.event_table.specs.declared.access.Access.{Access}
-use Rattle.event_table.specs.declared.access.Access.TheVariants.{Out}
+use Rattle.event_table.specs.declared.access.Values.{Values}
 use Rattle.event_table.specs.declared.end.End.TheVariants.{Undecoded}
 use Rattle.event_table.specs.declared.places.Place.{Place}
 use Rattle.event_table.specs.declared.places.Place.TheVariants.{Fixed, Low}
-use Rattle.event_table.specs.Places.{number}
-use Rattle.event_table.specs.Plan.{Plan, Ends, Looks, Named, Asks, Setting, goes, onward, unhandled}
+use Rattle.event_table.specs.declared.row.Kind.{Kind}
+use Rattle.event_table.specs.declared.row.Kind.TheVariants as kind
+use Rattle.event_table.specs.declared.row.Row.{Row}
+use Rattle.event_table.specs.Places.{Value, Number, number}
+use Rattle.event_table.specs.Plan.{Plan, Ends, Looks, Named, Asks, Setting, goes, onward}
+use Rattle.event_table.specs.Rows.{row_of, kind_of, access_of, registers}
 
--- the port: a number of the instruction, or DX
+-- the port that an operand names: a number of the instruction, or DX
 abbrev pub port_of : Operand → Place
 port_of (Imm port) = Fixed (port % 2 ^ 16)
 port_of _ = Low Rdx B16
 
--- OUT: the host sees the port and the value, and nothing comes back (APM volume 3, OUT).
-abbrev pub out_of : Insn → Setting → Plan
-out_of i s =
-    Looks Named (port_of i.dst ∷ Low Rax i.width ∷ []) (λ seen.
-    Asks (Out (number seen 0) (size_of i.width) (number seen 1)) (λ values. goes (onward s)) unhandled)
+abbrev pub port_at : Op → Insn → Place
+port_at op.Out i = port_of i.dst
+port_at op.In i = port_of i.src
+port_at _ i = Fixed 0
 
--- the instruction's plan, where `private` is that of one that exits for nothing
-abbrev pub event_by : Op → Insn → Setting → Plan → Plan
-event_by op.Out i s private = out_of i s
-event_by _ i s private = private
+-- the bytes of port I/O: it has no width of 64 bits (APM volume 3, IN and OUT)
+abbrev pub io_size : Width → ℕ
+io_size B8 = 1
+io_size B16 = 2
+io_size _ = 4
 
--- instructions that exit, for which nothing is shown yet
-abbrev pub comes_later_at : Op → Width → Bool
-comes_later_at op.Out B8 = false
-comes_later_at op.Out _ = true
-comes_later_at op.In _ = true
-comes_later_at op.Ins _ = true
-comes_later_at op.Outs _ = true
-comes_later_at op.Cpuid _ = true
-comes_later_at op.Rdmsr _ = true
-comes_later_at op.Wrmsr _ = true
-comes_later_at op.Rdtsc _ = true
-comes_later_at op.Rdpmc _ = true
-comes_later_at op.Wbinvd _ = true
-comes_later_at op.Rdtscp _ = true
-comes_later_at op.Vmmcall _ = true
-comes_later_at _ _ = false
+-- the event of an operation, with the port where it has one; the others exit for nothing, and string I/O for nothing yet
+abbrev pub kind_at : Op → Width → ℕ → Option Kind
+kind_at op.Out width port = Some (kind.Out port (io_size width))
+kind_at op.In width port = Some (kind.In port (io_size width))
+kind_at op.Cpuid width port = Some kind.Cpuid
+kind_at op.Rdmsr width port = Some kind.Rdmsr
+kind_at op.Wrmsr width port = Some kind.Wrmsr
+kind_at op.Rdtsc width port = Some kind.Rdtsc
+kind_at op.Rdtscp width port = Some kind.Rdtscp
+kind_at op.Rdpmc width port = Some kind.Rdpmc
+kind_at op.Wbinvd width port = Some kind.Wbinvd
+kind_at op.Vmmcall width port = Some kind.Vmmcall
+kind_at _ width port = None
 
-abbrev pub comes_later : Insn → Bool
-comes_later i = comes_later_at i.op i.width
+-- a register at a width, where the row has it
+abbrev pub place_if : Bool → Reg → Width → Place
+place_if is reg width = if is then Low reg width else Fixed 0
 
+-- the registers that a row shows, and those that have results
+abbrev pub shown_places : Row → List Place
+shown_places r = place_if r.shows.a Rax r.width ∷ place_if r.shows.c Rcx r.width ∷ place_if r.shows.d Rdx r.width ∷ []
+
+abbrev pub result_places : Row → List Place
+result_places r = place_if r.results.a Rax r.width ∷ place_if r.results.c Rcx r.width ∷ place_if r.results.d Rdx r.width ∷ place_if r.results.b Rbx r.width ∷ []
+
+abbrev pub results_in : Values → List Value
+results_in values = Number values.a ∷ Number values.c ∷ Number values.d ∷ Number values.b ∷ []
+
+-- What an event shows of registers, the access that it asks, and where the results go.
+abbrev pub event_of : Kind → Setting → Plan
+event_of k s =
+    Looks Named (shown_places (row_of k)) (λ seen.
+    Asks (access_of k (registers (number seen 0) (number seen 1) (number seen 2))) (λ values.
+    goes (record (onward s) { moved = result_places (row_of k); moves = results_in values })))
+
+abbrev pub event_or : Plan → Option Kind → Setting → Plan
+event_or private (Some k) s = event_of k s
+event_or private None s = private
+
+-- an instruction's plan, where `private` is that of one that exits for nothing
 abbrev pub event_plan : Insn → Setting → Plan → Plan
-event_plan i s private = if comes_later i then Ends Undecoded else event_by i.op i s private
+event_plan i s private = Looks Named (port_at i.op i ∷ []) (λ seen. event_or private (kind_at i.op i.width (number seen 0)) s)
 
 -- the plan of an instruction that exits; one that doesn't is no event
 abbrev pub exit_of : Insn → Setting → Plan
 exit_of i s = event_plan i s (Ends Undecoded)
 
+-- string I/O, for which nothing is shown yet
+abbrev pub comes_later_at : Op → Bool
+comes_later_at op.Ins = true
+comes_later_at op.Outs = true
+comes_later_at _ = false
+
+abbrev pub comes_later : Insn → Bool
+comes_later i = comes_later_at i.op
+
 -- the exit code with which #VC is raised for an access (AMD 56421, section 2.6; APM volume 2, appendix C)
 abbrev pub vc_code : Access → ℕ
-vc_code (Out port size value) = 0x7B
+vc_code access = (row_of (kind_of access)).code

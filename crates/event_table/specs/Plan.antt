@@ -1,6 +1,6 @@
 -- What an instruction does. Each instruction's meaning is one plan; the private step, the access that
 -- is asked, and the placing of its results are readings of it.
-use Rattle.std.specs.Prelude.{ℕ, ◌+◌, ◌*◌, ◌%◌, ◌^◌, Bool, if◌then◌else◌, List, [], ◌∷◌, length, map, Option, None, Some}
+use Rattle.std.specs.Prelude.{ℕ, ◌+◌, ◌*◌, ◌%◌, ◌^◌, Bool, if◌then◌else◌, List, [], ◌∷◌, length, map, Option, None, Some, Result, Ok, Err}
 use Rattle.x86_base.specs.declared.insn.Operand.{Operand}
 use Rattle.x86_base.specs.declared.insn.Operand.TheVariants.{Absent, Whole, High, Memory, Imm}
 use Rattle.x86_base.specs.declared.memory.MemRef.{MemRef}
@@ -11,7 +11,10 @@ use Rattle.x86_base.specs.Widths.{low}
 use Rattle.event_table.specs.declared.access.Access.{Access}
 use Rattle.event_table.specs.declared.access.Values.{Values}
 use Rattle.event_table.specs.declared.end.End.{End}
-use Rattle.event_table.specs.declared.end.End.TheVariants.{Undecoded, BadAddress, Fault}
+use Rattle.event_table.specs.declared.end.End.TheVariants.{Undecoded, BadAddress}
+use Rattle.event_table.specs.declared.end.End.TheVariants as ends
+use Rattle.x86_base.specs.declared.stop.Stop.{Stop}
+use Rattle.x86_base.specs.declared.stop.Stop.TheVariants as stop
 use Rattle.event_table.specs.declared.places.Place.{Place}
 use Rattle.event_table.specs.declared.places.Place.TheVariants as place
 use Rattle.event_table.specs.Places.{Vcpu, Value, number, read, write_all, address_in, is_readable, is_writable}
@@ -55,8 +58,8 @@ pub data Plan : Type 0 where
   Next : Plan
   Then : (change : Change) → (rest : Plan) → Plan
   Looks : (kind : Use) → (places : List Place) → (next : List Value → Plan) → Plan
-  -- an access is asked: what comes of its results, and of an exception with its vector and error code
-  Asks : (access : Access) → (done : Values → Plan) → (raised : ℕ → ℕ → Plan) → Plan
+  -- an access is asked: what comes of its results
+  Asks : (access : Access) → (done : Values → Plan) → Plan
 
 -- What a plan may depend on besides what it looks at: where the instruction and the following one
 -- stand, the sizes of RAM and of the code, and the direction flag.
@@ -134,24 +137,27 @@ stepped v (Ends end) = Stops end v
 stepped v Next = Moved v
 stepped v (Then change rest) = stepped (apply change v) rest
 stepped v (Looks kind places next) = stepped v (next (map (read v) places))
-stepped v (Asks access done raised) = Exits access v
+stepped v (Asks access done) = Exits access v
 
 -- the access that is asked, if one is
 abbrev pub asked : Vcpu → Plan → Option Access
 asked v (Looks kind places next) = asked v (next (map (read v) places))
-asked v (Asks access done raised) = Some access
+asked v (Asks access done) = Some access
 asked v _ = None
 
--- how the instruction goes on once its access is answered, where `chosen` takes one of the two ways; one that asks nothing isn't answered
-abbrev pub resumed : ((Values → Plan) → (ℕ → ℕ → Plan) → Plan) → Vcpu → Plan → Stepped
-resumed chosen v (Looks kind places next) = resumed chosen v (next (map (read v) places))
-resumed chosen v (Asks access done raised) = stepped v (chosen done raised)
-resumed chosen v _ = Stops Undecoded v
-
--- with these results
+-- how the instruction goes on with the results of its access; one that asks nothing isn't answered
 abbrev pub placed : Values → Vcpu → Plan → Stepped
-placed values v plan = resumed (λ done raised. done values) v plan
+placed values v (Looks kind places next) = placed values v (next (map (read v) places))
+placed values v (Asks access done) = stepped v (done values)
+placed values v _ = Stops Undecoded v
 
--- An exception ends the vCPU where the image names no handler for it.
-abbrev pub unhandled : ℕ → ℕ → Plan
-unhandled vector code = Ends (Fault vector)
+-- how a vCPU ends that an instruction stops
+abbrev pub end_of : Stop → End
+end_of stop.Halted = ends.Halted
+end_of (stop.BadAddress at) = ends.BadAddress at
+end_of (stop.Fault vector) = ends.Fault vector
+
+-- what an instruction comes to, by what the code returned and the vCPU then
+abbrev pub after : {A : Type 0} → Result A Stop → Vcpu → Stepped
+after (Ok _) v = Moved v
+after (Err stop) v = Stops (end_of stop) v

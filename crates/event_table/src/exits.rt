@@ -1,32 +1,26 @@
-// The event table: what an instruction asks of the devices, and where the results go.
-ghost use Rattle.std.specs.Prelude.{◌≡◌, IfSome, IsSome};
+// What an instruction that exits asks of the devices, and where the results go.
+ghost use Rattle.std.specs.Prelude.{◌≡◌, is_some, IfSome, IsSome};
 ghost use Rattle.image_file.specs.Ram.{Memory};
-ghost use Rattle.event_table.specs.Events.{comes_later as is_later, exit_of, port_of};
-ghost use Rattle.event_table.specs.Lawful.{IsByteOut};
-ghost use Rattle.event_table.specs.Places.{read, vcpu, Number};
+ghost use Rattle.event_table.specs.Events.{comes_later as is_later, exit_of, kind_at, place_if, port_at, port_of};
+ghost use Rattle.event_table.specs.Lawful.{IsKind, IsLawfulAccess, IsSize};
+ghost use Rattle.event_table.specs.Places.{read, vcpu, write, Number};
 ghost use Rattle.event_table.specs.Plan.{Moved, asked, placed, setting};
 
 use crate::access::{Access, Values};
-use crate::places::following;
+use crate::places::{following, low};
+use crate::row::{Kind, Registers, access_of, row_of};
 use image_file::Ram;
 use x86_base::{Insn, Op, Operand, Reg, Regs, Width};
 
-/// Whether an instruction exits for an access that isn't shown to the host yet.
+/// Whether an instruction exits for accesses that aren't shown to the host yet: string I/O.
 pub fn comes_later(insn: &Insn) -> bool
     ensures value { result ≡ is_later insn.now }
 {
-    match insn.op {
-        Op::Out => insn.width != Width::B8,
-        Op::In | Op::Ins | Op::Outs => true,
-        Op::Cpuid | Op::Rdmsr | Op::Wrmsr => true,
-        Op::Rdtsc | Op::Rdtscp | Op::Rdpmc => true,
-        Op::Wbinvd | Op::Vmmcall => true,
-        _ => false,
-    }
+    matches!(insn.op, Op::Ins | Op::Outs)
 }
 
-/// The port that an instruction names: a number of its own, or DX.
-fn port(regs: &Regs, operand: &Operand) -> u16
+/// The port that an operand names: a number of the instruction, or DX.
+fn port_in(regs: &Regs, operand: &Operand) -> u16
     ensures value { (ram : Memory) → read (vcpu regs.now ram) (port_of operand.now) ≡ Number result }
 {
     match operand {
@@ -35,20 +29,94 @@ fn port(regs: &Regs, operand: &Operand) -> u16
     }
 }
 
+/// The port of port I/O; 0 for any other instruction.
+fn port(regs: &Regs, insn: &Insn) -> u16
+    ensures value { (ram : Memory) → read (vcpu regs.now ram) (port_at insn.now.op insn.now) ≡ Number result }
+{
+    match insn.op {
+        Op::Out => port_in(regs, &insn.dst),
+        Op::In => port_in(regs, &insn.src),
+        _ => 0,
+    }
+}
+
+/// The bytes of port I/O: it has no width of 64 bits (APM volume 3, IN and OUT).
+fn io_size(width: Width) -> u8
+    ensures value { result ≡ Rattle.event_table.specs.Events.io_size width }
+    ensures lawful { IsSize result }
+{
+    match width {
+        Width::B8 => 1,
+        Width::B16 => 2,
+        _ => 4,
+    }
+}
+
+/// The event of an instruction that exits, with its port where it has one.
+#[inline(always)]
+fn kind(insn: &Insn, port: u16) -> Option<Kind>
+    ensures value { result ≡ kind_at insn.now.op insn.now.width port }
+    ensures lawful { IfSome result IsKind }
+{
+    match insn.op {
+        Op::Out => Some(Kind::Out {
+            port,
+            size: io_size(insn.width),
+        }),
+        Op::In => Some(Kind::In {
+            port,
+            size: io_size(insn.width),
+        }),
+        Op::Cpuid => Some(Kind::Cpuid),
+        Op::Rdmsr => Some(Kind::Rdmsr),
+        Op::Wrmsr => Some(Kind::Wrmsr),
+        Op::Rdtsc => Some(Kind::Rdtsc),
+        Op::Rdtscp => Some(Kind::Rdtscp),
+        Op::Rdpmc => Some(Kind::Rdpmc),
+        Op::Wbinvd => Some(Kind::Wbinvd),
+        Op::Vmmcall => Some(Kind::Vmmcall),
+        _ => None,
+    }
+}
+
+/// Whether an instruction exits for an access that is shown to the host, as [`named`] gives it.
+#[inline(always)]
+pub fn is_event(insn: &Insn) -> bool
+    ensures value { result ≡ is_some (kind_at insn.now.op insn.now.width 0) }
+{
+    kind(insn, 0).is_some()
+}
+
+/// A register's low bits, where a row shows it, and else 0.
+fn shown(regs: &Regs, is: bool, reg: Reg, width: Width) -> u64
+    ensures value { (ram : Memory) → read (vcpu regs.now ram) (place_if is reg width) ≡ Number result }
+{
+    if is { low(width, regs.get(reg)) } else { 0 }
+}
+
 /// The access that an instruction asks of the devices, at registers and RAM. There is none exactly
-/// where the instruction exits for nothing, or for an access that isn't shown yet.
+/// where the instruction exits for nothing, or is string I/O.
 pub fn named(regs: &Regs, ram: &Ram, insn: &Insn) -> Option<Access>
     ensures value { let v = vcpu regs.now ram.now in result ≡ asked v (exit_of insn.now (setting v insn.now.len)) }
-    ensures lawful { IfSome result IsByteOut }
+    ensures lawful { IfSome result IsLawfulAccess }
 {
-    if insn.op != Op::Out || insn.width != Width::B8 {
-        return None;
+    let kind = kind(insn, port(regs, insn))?;
+    let row = row_of(&kind);
+    let registers = Registers {
+        a: shown(regs, row.shows.a, Reg::Rax, row.width),
+        c: shown(regs, row.shows.c, Reg::Rcx, row.width),
+        d: shown(regs, row.shows.d, Reg::Rdx, row.width),
+    };
+    Some(access_of(&kind, &registers))
+}
+
+/// Puts a result in its register, where a row has one for it.
+fn put_if(regs: &mut Regs, is: bool, reg: Reg, width: Width, value: u64)
+    ensures change { (ram : Memory) → vcpu regs.new ram ≡ write (place_if is reg width) (Number value) (vcpu regs.old ram) }
+{
+    if is {
+        regs.put_sized(reg, width, value);
     }
-    Some(Access::Out {
-        port: port(regs, &insn.dst),
-        size: 1,
-        value: (regs.get(Reg::Rax) % 0x100) as u32,
-    })
 }
 
 /// Puts the results of the access that an instruction asks in their places, and goes on.
@@ -56,5 +124,13 @@ pub fn place(regs: &mut Regs, ram: &mut Ram, insn: &Insn, values: &Values)
     requires asked { let v = vcpu regs.old ram.old in IsSome (asked v (exit_of insn.now (setting v insn.now.len))) }
     ensures placed { let v = vcpu regs.old ram.old in Moved (vcpu regs.new ram.new) ≡ placed values.now v (exit_of insn.now (setting v insn.now.len)) }
 {
-    regs.rip = following(regs, insn);
+    let next = following(regs, insn);
+    if let Some(kind) = kind(insn, port(regs, insn)) {
+        let row = row_of(&kind);
+        put_if(regs, row.results.a, Reg::Rax, row.width, values.a);
+        put_if(regs, row.results.c, Reg::Rcx, row.width, values.c);
+        put_if(regs, row.results.d, Reg::Rdx, row.width, values.d);
+        put_if(regs, row.results.b, Reg::Rbx, row.width, values.b);
+    }
+    regs.rip = next;
 }

@@ -1,8 +1,6 @@
 -- The private step, and how far a vCPU goes by itself.
 use Rattle.std.specs.Prelude.{◌≡◌, ℕ, zero, suc, ◌+◌, ◌-◌, Bool, true, false, if◌then◌else◌, nat_lt, Some, Result, Ok, Err}
 use Rattle.x86_base.specs.declared.insn.Insn.{Insn}
-use Rattle.x86_base.specs.declared.stop.Stop.{Stop}
-use Rattle.x86_base.specs.declared.stop.Stop.TheVariants as stop
 use Rattle.insn_decode.specs.declared.fault.DecodeFault.{DecodeFault}
 use Rattle.insn_decode.specs.declared.fault.DecodeFault.TheVariants as fault
 use Rattle.insn_decode.specs.Reading.{decode_of}
@@ -15,7 +13,7 @@ use Rattle.event_table.specs.declared.event.Event.{Event}
 use Rattle.event_table.specs.declared.event.Event.TheVariants.{One}
 use Rattle.event_table.specs.Events.{event_plan, exit_of, vc_code}
 use Rattle.event_table.specs.Places.{Vcpu}
-use Rattle.event_table.specs.Plan.{Plan, Ends, Setting, setting, Stepped, Moved, Exits, Stops, stepped, asked, placed}
+use Rattle.event_table.specs.Plan.{Plan, Ends, Setting, setting, Stepped, Moved, Exits, Stops, stepped, asked, placed, end_of}
 use Rattle.guest_interp.specs.declared.stepping.Next.{Next}
 use Rattle.guest_interp.specs.declared.stepping.Next.TheVariants.{Went, Vc, Ended as Stopped}
 use Rattle.guest_interp.specs.Table.{private_of}
@@ -23,17 +21,6 @@ use Rattle.guest_interp.specs.Table.{private_of}
 -- what an instruction does: the event table's plan, or the private one
 abbrev pub plan_of : Insn → Setting → Plan
 plan_of i s = event_plan i s (private_of i s)
-
--- how a vCPU ends that an instruction stops
-abbrev pub end_of : Stop → End
-end_of stop.Halted = ends.Halted
-end_of (stop.BadAddress at) = ends.BadAddress at
-end_of (stop.Fault vector) = ends.Fault vector
-
--- what a private instruction comes to, by what the code returned and the vCPU then
-abbrev pub after : {A : Type 0} → Result A Stop → Vcpu → Stepped
-after (Ok _) v = Moved v
-after (Err stop) v = Stops (end_of stop) v
 
 -- the instruction exits for an access, with this exit code
 pub record IsExit (code : ℕ) (i : Insn) (v : Vcpu) : Type 0 where

@@ -2,10 +2,10 @@
 ghost use Rattle.std.specs.Prelude.{◌≡◌, false, is_some, None, OnErr};
 ghost use Rattle.x86_base.specs.Spelling.{IsSpelled};
 ghost use Rattle.insn_decode.specs.Laws.{HasCondition};
-ghost use Rattle.event_table.specs.Events.{comes_later, exit_of, vc_code};
+ghost use Rattle.event_table.specs.Events.{comes_later, exit_of, kind_at};
 ghost use Rattle.event_table.specs.Places.{vcpu};
-ghost use Rattle.event_table.specs.Plan.{asked, setting, stepped};
-ghost use Rattle.guest_interp.specs.Stepping.{Comes, after, is_vc};
+ghost use Rattle.event_table.specs.Plan.{after, asked, setting, stepped};
+ghost use Rattle.guest_interp.specs.Stepping.{Comes, is_vc};
 ghost use Rattle.guest_interp.specs.Table.{operation_of, other_of, private_of};
 
 use crate::calculation::arithmetic;
@@ -14,6 +14,7 @@ use crate::jumps::{cmc, jmp, jump_if, nop, put_carry, put_direction};
 use crate::moves::{lea, mov, movsx, movzx};
 use crate::pushes::{call, iretq, pop, push, ret};
 use alu_ops::AluOp;
+use event_table::{is_event, kind_of, named, row_of};
 use image_file::Ram;
 use insn_decode::laws::conditions;
 use x86_base::{Insn, Op, Regs, Stop};
@@ -60,7 +61,7 @@ fn other(regs: &mut Regs, ram: &mut Ram, insn: &Insn) -> Result<(), Stop>
     requires condition { HasCondition insn.now.op }
     requires shown { comes_later insn.now ≡ false }
     requires operation { operation_of insn.now.op ≡ None }
-    requires private { insn.now.op ≡ Op.Out → ⊥ }
+    requires private { kind_at insn.now.op insn.now.width 0 ≡ None }
     ensures done { let v = vcpu regs.old ram.old in after result (vcpu regs.new ram.new) ≡ stepped v (other_of insn.now.op insn.now (setting v insn.now.len)) }
     ensures kept { OnErr result (vcpu regs.new ram.new ≡ vcpu regs.old ram.old) }
 {
@@ -94,7 +95,7 @@ fn other(regs: &mut Regs, ram: &mut Ram, insn: &Insn) -> Result<(), Stop>
 fn private(regs: &mut Regs, ram: &mut Ram, insn: &Insn) -> Result<(), Stop>
     requires condition { HasCondition insn.now.op }
     requires shown { comes_later insn.now ≡ false }
-    requires private { insn.now.op ≡ Op.Out → ⊥ }
+    requires private { kind_at insn.now.op insn.now.width 0 ≡ None }
     ensures done { let v = vcpu regs.old ram.old in after result (vcpu regs.new ram.new) ≡ stepped v (private_of insn.now (setting v insn.now.len)) }
     ensures kept { OnErr result (vcpu regs.new ram.new ≡ vcpu regs.old ram.old) }
 {
@@ -112,8 +113,10 @@ pub fn step(regs: &mut Regs, ram: &mut Ram, insn: &Insn) -> Next
     ensures comes { Comes result insn.now (vcpu regs.old ram.old) (vcpu regs.new ram.new) }
     ensures named { let v = vcpu regs.old ram.old in is_vc result ≡ is_some (asked v (exit_of insn.now (setting v insn.now.len))) }
 {
-    if let Op::Out = insn.op {
-        return Next::Vc(0x7B);
+    if is_event(insn)
+        && let Some(access) = named(regs, ram, insn)
+    {
+        return Next::Vc(row_of(&kind_of(&access)).code);
     }
     conditions();
     match private(regs, ram, insn) {

@@ -1,10 +1,10 @@
 // Short guests, instruction by instruction.
 use crate::{Next, fetch, step};
-use event_table::{Access, End, comes_later, named, place};
+use event_table::{Access, End, Values, comes_later, named, place, raise};
 use image_file::{Image, Ram};
 use std::alloc::Global;
 use std::test::Fail;
-use x86_base::{Flags, Reg, Regs, Stop};
+use x86_base::{Flags, Insn, Reg, Regs, Stop};
 
 /// What a guest comes to after some instructions.
 #[derive(Drop)]
@@ -15,49 +15,83 @@ struct Gone {
     end: Option<Stop>,
 }
 
+/// An image of one page with this code, and a handler of #GP at an address.
+fn image_of(alloc: Global, code: &[u8], gp: u8) -> Result<Image, Fail> {
+    let mut file = b"GHCBIMG1\x01\0\0\0\0\x10\0\0".to_vec(alloc)?;
+    file.push((code.len() & 0xFF) as u8)?;
+    file.resize(32, 0)?;
+    file.push(gp)?;
+    file.resize(64, 0)?;
+    file.extend_from_slice(code)?;
+    Ok(Image::read(alloc, &file)?)
+}
+
 /// The RAM of one page that holds this code and zeros behind it.
 fn ram_of(alloc: Global, code: &[u8]) -> Result<Ram, Fail> {
-    let mut image = b"GHCBIMG1\x01\0\0\0\0\x10\0\0".to_vec(alloc)?;
-    image.push((code.len() & 0xFF) as u8)?;
-    image.resize(64, 0)?;
-    image.extend_from_slice(code)?;
-    match Image::read(alloc, &image) {
-        Ok(image) => Ok(image.ram(alloc)?),
-        Err(_) => Err(Fail::new("no image")),
+    Ok(image_of(alloc, code, 0)?.ram(alloc)?)
+}
+
+/// A guest at address 0 of its code, with RSP at the end of RAM and a flags word.
+fn opened(ram: Ram, word: u64) -> Gone {
+    let mut gpr = [0; 16];
+    gpr[4] = 0x1000;
+    Gone {
+        regs: Regs {
+            gpr,
+            rip: 0,
+            flags: Flags::from_word(word),
+        },
+        ram,
+        steps: 0,
+        end: None,
+    }
+}
+
+/// Runs private instructions, at most `most`.
+fn go_on(gone: &mut Gone, most: u64) {
+    for _ in 0..most {
+        let Ok(insn) = fetch(&gone.regs, &gone.ram) else {
+            return;
+        };
+        if comes_later(&insn) {
+            return;
+        }
+        match step(&mut gone.regs, &mut gone.ram, &insn) {
+            Next::Went => gone.steps = gone.steps.wrapping_add(1),
+            Next::Vc(_) => return,
+            Next::Ended(stop) => {
+                gone.end = Some(stop);
+                return;
+            }
+        }
     }
 }
 
 /// Runs private instructions from address 0 on, at most `most`, with RSP at the end of RAM and a
 /// flags word.
 fn run(alloc: Global, code: &[u8], most: u64, word: u64) -> Result<Gone, Fail> {
-    let mut gone = Gone {
-        regs: Regs {
-            gpr: [0; 16],
-            rip: 0,
-            flags: Flags::from_word(word),
-        },
-        ram: ram_of(alloc, code)?,
-        steps: 0,
-        end: None,
-    };
-    gone.regs.gpr[Reg::Rsp as usize] = 0x1000;
-    for done in 0..most {
-        let Ok(insn) = fetch(&gone.regs, &gone.ram) else {
-            return Ok(gone);
-        };
-        if comes_later(&insn) {
-            return Ok(gone);
-        }
-        match step(&mut gone.regs, &mut gone.ram, &insn) {
-            Next::Went => gone.steps = done + 1,
-            Next::Vc(_) => return Ok(gone),
-            Next::Ended(stop) => {
-                gone.end = Some(stop);
-                return Ok(gone);
-            }
-        }
-    }
+    let mut gone = opened(ram_of(alloc, code)?, word);
+    go_on(&mut gone, most);
     Ok(gone)
+}
+
+/// Results, of which an OUT has none.
+const SEVENS: Values = Values {
+    a: 7,
+    c: 7,
+    d: 7,
+    b: 7,
+};
+
+/// The instruction at RIP, the code of its #VC, and what it asks.
+fn asked(gone: &mut Gone) -> Option<(Insn, Next, Access)> {
+    let insn = fetch(&gone.regs, &gone.ram).ok()?;
+    if comes_later(&insn) {
+        return None;
+    }
+    let next = step(&mut gone.regs, &mut gone.ram, &insn);
+    let access = named(&gone.regs, &gone.ram, &insn)?;
+    Some((insn, next, access))
 }
 
 #[test]
@@ -253,38 +287,125 @@ fn an_out_of_a_byte_exits_with_its_byte_alone(rt: HostRuntime) -> Result<(), Fai
             11,
         ),
     ];
-    for (code, port, next) in codes {
+    for (code, port, rip) in codes {
         let mut gone = run(rt.alloc(), code, 100, 2)?;
         assert_eq!(rt; gone.end, None);
         assert_eq!(rt; gone.steps, 1);
-        let Ok(insn) = fetch(&gone.regs, &gone.ram) else {
-            return Err(Fail::new("no instruction"));
-        };
-        if comes_later(&insn) {
-            return Err(Fail::new("no access"));
-        }
         let before = gone.regs;
-        assert_eq!(rt; step(&mut gone.regs, &mut gone.ram, &insn), Next::Vc(0x7B));
+        let Some((insn, next, access)) = asked(&mut gone) else {
+            return Err(Fail::new("no access"));
+        };
+        assert_eq!(rt; next, Next::Vc(0x7B));
         assert_eq!(rt; gone.regs, before);
-        let access = Access::Out {
+        let out = Access::Out {
             port,
             size: 1,
             value: 0x88,
         };
-        let Some(found) = named(&gone.regs, &gone.ram, &insn) else {
-            return Err(Fail::new("no access"));
-        };
-        assert_eq!(rt; found, access);
-        let values = event_table::Values {
-            a: 7,
-            c: 7,
-            d: 7,
-            b: 7,
-        };
-        place(&mut gone.regs, &mut gone.ram, &insn, &values);
-        assert_eq!(rt; gone.regs.rip, next);
+        assert_eq!(rt; access, out);
+        if named(&gone.regs, &gone.ram, &insn).is_some() {
+            place(&mut gone.regs, &mut gone.ram, &insn, &SEVENS);
+        }
+        assert_eq!(rt; gone.regs.rip, rip);
         assert_eq!(rt; gone.regs.gpr, before.gpr);
     }
+    Ok(())
+}
+
+#[test]
+fn a_handler_steps_over_an_instruction_that_is_refused(rt: HostRuntime) -> Result<(), Fail> {
+    // MOV ECX, 99h; RDMSR; HLT; the handler: ADD RSP, 8; ADD QWORD [RSP], 2; IRETQ
+    let code = [
+        0xB9, 0x99, 0, 0, 0, 0x0F, 0x32, 0xF4, 0x48, 0x83, 0xC4, 8, 0x48, 0x83, 0x04, 0x24, 2,
+        0x48, 0xCF,
+    ];
+    let image = image_of(rt.alloc(), &code, 8)?;
+    let mut gone = opened(image.ram(rt.alloc())?, 2);
+    go_on(&mut gone, 100);
+    let Some((_, next, access)) = asked(&mut gone) else {
+        return Err(Fail::new("no access"));
+    };
+    assert_eq!(rt; next, Next::Vc(0x7C));
+    assert_eq!(rt; access, Access::Rdmsr { msr: 0x99 });
+    assert_eq!(rt; raise(&mut gone.regs, &mut gone.ram, &image, 13, 0), Ok(()));
+    assert_eq!(rt; gone.regs.rip, 8);
+    for (at, word) in [
+        (0xFD0, 0),
+        (0xFD8, 5),
+        (0xFE0, 8),
+        (0xFE8, 2),
+        (0xFF0, 0x1000),
+        (0xFF8, 0x10),
+    ] {
+        assert_eq!(rt; gone.ram.read(at, 8).unwrap_or(u64::MAX), word, "at {at:x}");
+    }
+    go_on(&mut gone, 100);
+    assert_eq!(rt; gone.end, Some(Stop::Halted));
+    // MOV, ADD, ADD and IRETQ went; the delivery and HLT are a step each
+    assert_eq!(rt; gone.steps, 4);
+    assert_eq!(rt; gone.regs.rip, 7);
+    assert_eq!(rt; gone.regs.get(Reg::Rsp), 0x1000);
+    Ok(())
+}
+
+#[test]
+fn a_clock_is_read_twice(rt: HostRuntime) -> Result<(), Fail> {
+    // RDTSC; RDTSC; HLT
+    let mut gone = run(rt.alloc(), &[0x0F, 0x31, 0x0F, 0x31, 0xF4], 100, 2)?;
+    for (a, rip) in [(0, 2), (0x3E8, 4)] {
+        let Some((insn, next, access)) = asked(&mut gone) else {
+            return Err(Fail::new("no access"));
+        };
+        assert_eq!(rt; next, Next::Vc(0x6E));
+        assert_eq!(rt; access, Access::Rdtsc);
+        if named(&gone.regs, &gone.ram, &insn).is_some() {
+            let values = Values {
+                a,
+                c: 7,
+                d: 0,
+                b: 7,
+            };
+            place(&mut gone.regs, &mut gone.ram, &insn, &values);
+        }
+        assert_eq!(rt; gone.regs.gpr[..4], [a, 0, 0, 0][..]);
+        assert_eq!(rt; gone.regs.rip, rip);
+    }
+    go_on(&mut gone, 100);
+    assert_eq!(rt; gone.end, Some(Stop::Halted));
+    assert_eq!(rt; gone.steps, 0);
+    Ok(())
+}
+
+#[test]
+fn a_rip_relative_base_is_the_following_instruction(rt: HostRuntime) -> Result<(), Fail> {
+    // MOV EAX, [RIP+1]; HLT; and the same with REX.B, where R13 is no base
+    let codes: [&[u8]; 2] = [
+        &[0x8B, 0x05, 1, 0, 0, 0, 0xF4, 0x11, 0x22, 0x33, 0x44],
+        &[0x41, 0x8B, 0x05, 1, 0, 0, 0, 0xF4, 0x11, 0x22, 0x33, 0x44],
+    ];
+    for code in codes {
+        let gone = run(rt.alloc(), code, 100, 2)?;
+        assert_eq!(rt; gone.regs.get(Reg::Rax), 0x4433_2211);
+    }
+    // MOV DWORD [RIP+7F6h], 44332211h; HLT: the immediate is part of the instruction
+    let code = [0xC7, 0x05, 0xF6, 7, 0, 0, 0x11, 0x22, 0x33, 0x44, 0xF4];
+    let gone = run(rt.alloc(), &code, 100, 2)?;
+    assert_eq!(rt; gone.ram.read(0x800, 4).unwrap_or(0), 0x4433_2211);
+    Ok(())
+}
+
+#[test]
+fn ah_is_no_spl_in_a_move(rt: HostRuntime) -> Result<(), Fail> {
+    // PUSH RAX; MOV EAX, 8180h; MOV [800h], AH; MOV [801h], SPL; MOV AH, [801h]; HLT
+    let code = [
+        0x50, 0xB8, 0x80, 0x81, 0, 0, 0x88, 0x24, 0x25, 0, 8, 0, 0, 0x40, 0x88, 0x24, 0x25, 1, 8,
+        0, 0, 0x8A, 0x24, 0x25, 1, 8, 0, 0, 0xF4,
+    ];
+    let gone = run(rt.alloc(), &code, 100, 2)?;
+    assert_eq!(rt; gone.end, Some(Stop::Halted));
+    assert_eq!(rt; gone.ram.read(0x800, 2).unwrap_or(0), 0xF881);
+    assert_eq!(rt; gone.regs.get(Reg::Rax), 0xF880);
+    assert_eq!(rt; gone.regs.get(Reg::Rsp), 0xFF8);
     Ok(())
 }
 

@@ -1,0 +1,225 @@
+// Instructions that exit, and exceptions, over one page of RAM.
+use crate::{Access, Values, named, place, raise};
+use image_file::{Image, Ram};
+use std::alloc::Global;
+use std::test::Fail;
+use x86_base::{Flags, Insn, Op, Operand, Reg, Regs, Stop, Width};
+
+/// An image of nine bytes of code over one page, with handlers of #UD and #GP at these addresses.
+fn image(alloc: Global, ud: u8, gp: u8) -> Result<Image, Fail> {
+    let mut file = [0; 73];
+    file[..8].copy_from_slice(b"GHCBIMG1");
+    file[8] = 1;
+    file[13] = 0x10;
+    file[16] = 9;
+    file[28] = ud;
+    file[32] = gp;
+    Ok(Image::read(alloc, &file)?)
+}
+
+/// Registers with RAX, RCX, RDX and RSP, at address 5.
+fn regs(a: u64, c: u64, d: u64, rsp: u64) -> Regs {
+    let mut gpr = [0x7777_7777_7777_7777; 16];
+    gpr[0] = a;
+    gpr[1] = c;
+    gpr[2] = d;
+    gpr[4] = rsp;
+    Regs {
+        gpr,
+        rip: 5,
+        flags: Flags::from_word(2),
+    }
+}
+
+/// An instruction of two bytes.
+fn insn(op: Op, width: Width, dst: Operand, src: Operand) -> Insn {
+    Insn {
+        op,
+        width,
+        source_width: width,
+        dst,
+        src,
+        rep: false,
+        len: 2,
+    }
+}
+
+const A: u64 = 0x1122_3344_5566_7788;
+
+const C: u64 = 0x99AA_BBCC_DDEE_FF00;
+
+const D: u64 = 0x0123_4567_89AB_03F8;
+
+const RAX: Operand = Operand::Whole(Reg::Rax);
+
+const RDX: Operand = Operand::Whole(Reg::Rdx);
+
+const NONE: Operand = Operand::Absent;
+
+fn out(port: u16, size: u8, value: u32) -> Access {
+    Access::Out { port, size, value }
+}
+
+fn input(port: u16, size: u8) -> Access {
+    Access::In { port, size }
+}
+
+#[test]
+fn port_io_asks_the_bytes_of_its_size_alone(rt: HostRuntime) -> Result<(), Fail> {
+    let ram = image(rt.alloc(), 0, 0)?.ram(rt.alloc())?;
+    let regs = regs(A, C, D, 0x1000);
+    let port = Operand::Imm(0x60);
+    let rows = [
+        (insn(Op::Out, Width::B8, RDX, RAX), out(0x3F8, 1, 0x88)),
+        (insn(Op::Out, Width::B16, port, RAX), out(0x60, 2, 0x7788)),
+        (
+            insn(Op::Out, Width::B32, RDX, RAX),
+            out(0x3F8, 4, 0x5566_7788),
+        ),
+        (insn(Op::In, Width::B8, RAX, RDX), input(0x3F8, 1)),
+        (insn(Op::In, Width::B16, RAX, port), input(0x60, 2)),
+        (insn(Op::In, Width::B32, RAX, RDX), input(0x3F8, 4)),
+    ];
+    for (insn, access) in rows {
+        assert_eq!(rt; named(&regs, &ram, &insn), Some(access));
+    }
+    Ok(())
+}
+
+#[test]
+fn no_high_half_is_asked_at_wrmsr_and_rdmsr(rt: HostRuntime) -> Result<(), Fail> {
+    let ram = image(rt.alloc(), 0, 0)?.ram(rt.alloc())?;
+    let regs = regs(A, C, D, 0x1000);
+    let (eax, ecx, edx) = (0x5566_7788, 0xDDEE_FF00, 0x89AB_03F8);
+    let cpuid = Access::Cpuid {
+        leaf: eax,
+        sub: ecx,
+    };
+    let wrmsr = Access::Wrmsr {
+        msr: ecx,
+        low: eax,
+        high: edx,
+    };
+    let rows = [
+        (Op::Rdmsr, Some(Access::Rdmsr { msr: ecx })),
+        (Op::Wrmsr, Some(wrmsr)),
+        (Op::Cpuid, Some(cpuid)),
+        (Op::Rdpmc, Some(Access::Rdpmc { index: ecx })),
+        (Op::Vmmcall, Some(Access::Vmmcall { rax: A })),
+        (Op::Rdtsc, Some(Access::Rdtsc)),
+        (Op::Rdtscp, Some(Access::Rdtscp)),
+        (Op::Wbinvd, Some(Access::Wbinvd)),
+        (Op::Nop, None),
+        (Op::Hlt, None),
+        (Op::Mov, None),
+        (Op::Ins, None),
+        (Op::Outs, None),
+    ];
+    for (op, access) in rows {
+        assert_eq!(rt;
+            named(&regs, &ram, &insn(op, Width::B64, NONE, NONE)),
+            access
+        );
+    }
+    Ok(())
+}
+
+/// What RBX is at the start.
+const B: u64 = 0x7777_7777_7777_7777;
+
+/// RAX, RCX, RDX and RBX after an instruction takes wide results; none where RIP or RSP isn't as told.
+fn placed(ram: &mut Ram, insn: Insn) -> Option<[u64; 4]> {
+    let values = Values {
+        a: 0xFFFF_FFFF_FFFF_FF41,
+        c: 0xFFFF_FFFF_0000_0042,
+        d: 0xFFFF_FFFF_0000_0043,
+        b: 0xFFFF_FFFF_0000_0044,
+    };
+    let mut regs = regs(A, C, D, 0x1000);
+    named(&regs, ram, &insn)?;
+    place(&mut regs, ram, &insn, &values);
+    if regs.rip != 7 || regs.get(Reg::Rsp) != 0x1000 {
+        return None;
+    }
+    Some([regs.gpr[0], regs.gpr[1], regs.gpr[2], regs.gpr[3]])
+}
+
+#[test]
+fn in_al_keeps_the_rest_of_rax_and_in_eax_clears_its_high_half(
+    rt: HostRuntime,
+) -> Result<(), Fail> {
+    let mut ram = image(rt.alloc(), 0, 0)?.ram(rt.alloc())?;
+    let rows = [
+        (insn(Op::In, Width::B8, RAX, RDX), 0x1122_3344_5566_7741),
+        (insn(Op::In, Width::B16, RAX, RDX), 0x1122_3344_5566_FF41),
+        (insn(Op::In, Width::B32, RAX, RDX), 0xFFFF_FF41),
+        (insn(Op::Out, Width::B8, RDX, RAX), A),
+        (insn(Op::Out, Width::B32, RDX, RAX), A),
+    ];
+    for (insn, rax) in rows {
+        assert_eq!(rt; placed(&mut ram, insn), Some([rax, C, D, B]));
+    }
+    Ok(())
+}
+
+#[test]
+fn no_result_of_64_bits_is_kept_at_rdtsc_and_rdmsr(rt: HostRuntime) -> Result<(), Fail> {
+    let mut ram = image(rt.alloc(), 0, 0)?.ram(rt.alloc())?;
+    // RAX, RCX, RDX and RBX afterwards
+    let rows = [
+        (Op::Rdtsc, [0xFFFF_FF41, C, 0x43, B]),
+        (Op::Rdmsr, [0xFFFF_FF41, C, 0x43, B]),
+        (Op::Rdpmc, [0xFFFF_FF41, C, 0x43, B]),
+        (Op::Rdtscp, [0xFFFF_FF41, 0x42, 0x43, B]),
+        (Op::Cpuid, [0xFFFF_FF41, 0x42, 0x43, 0x44]),
+        (Op::Vmmcall, [0xFFFF_FFFF_FFFF_FF41, C, D, B]),
+        (Op::Wrmsr, [A, C, D, B]),
+        (Op::Wbinvd, [A, C, D, B]),
+    ];
+    for (op, after) in rows {
+        let insn = insn(op, Width::B64, NONE, NONE);
+        assert_eq!(rt; placed(&mut ram, insn), Some(after));
+    }
+    Ok(())
+}
+
+#[test]
+fn delivers_an_exception(rt: HostRuntime) -> Result<(), Fail> {
+    let image = image(rt.alloc(), 3, 8)?;
+    // The vector, its code, RSP before and after, where it goes on, and the words from RSP upwards.
+    let rows: [(u8, u32, u64, u64, u64, &[u64]); 3] = [
+        (13, 0, 0x1000, 0xFD0, 8, &[0, 5, 8, 2, 0x1000, 16]),
+        (13, 7, 0x80B, 0x7D0, 8, &[7, 5, 8, 2, 0x80B, 16]),
+        (6, 7, 0x80B, 0x7D8, 3, &[5, 8, 2, 0x80B, 16]),
+    ];
+    for (vector, code, rsp, top, rip, words) in rows {
+        let mut ram = image.ram(rt.alloc())?;
+        let mut regs = regs(A, C, D, rsp);
+        assert_eq!(rt; raise(&mut regs, &mut ram, &image, vector, code), Ok(()));
+        assert_eq!(rt; regs.get(Reg::Rsp), top);
+        assert_eq!(rt; regs.rip, rip);
+        for (number, word) in words.iter().enumerate() {
+            assert_eq!(rt; ram.read(top + 8 * number as u64, 8).unwrap_or(0), *word);
+        }
+    }
+    Ok(())
+}
+
+#[test]
+fn refuses_an_exception_with_nothing_changed(rt: HostRuntime) -> Result<(), Fail> {
+    // The handlers, RSP, and the end: none; a frame on code, one past RAM, and one that wraps.
+    let rows = [
+        (0, 0x1000, Stop::Fault(13)),
+        (8, 0x38, Stop::BadAddress(0)),
+        (8, 0x1010, Stop::BadAddress(0xFE0)),
+        (8, 0x2F, Stop::BadAddress(0xFFFF_FFFF_FFFF_FFF0)),
+    ];
+    for (gp, rsp, stop) in rows {
+        let image = image(rt.alloc(), 0, gp)?;
+        let mut ram = image.ram(rt.alloc())?;
+        let mut after = regs(A, C, D, rsp);
+        assert_eq!(rt; raise(&mut after, &mut ram, &image, 13, 0), Err(stop));
+        assert_eq!(rt; after, regs(A, C, D, rsp));
+    }
+    Ok(())
+}
