@@ -1,3 +1,5 @@
 pub mod Told
 pub mod Programs
+pub mod Dialogue
 pub mod Stores
+pub mod Recording

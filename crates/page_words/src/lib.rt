@@ -4,10 +4,14 @@
 
 mod item;
 mod page;
+mod recorded;
+mod script;
 mod word;
 mod words;
 
 pub use item::Item;
 pub use page::Page;
+pub use recorded::Recorded;
+pub use script::Script;
 pub use word::Word;
 pub use words::Words;
