@@ -1,0 +1,78 @@
+-- How a guest takes the reply to an event (AMD 56421, "GHCB Layout", SW_EXITINFO1, SW_EXITINFO2 and VALID_BITMAP).
+use Rattle.std.specs.Prelude.{ℕ, ◌%◌, ◌^◌, ◌==◌, Bool, not, ◌&&◌, ◌||◌, if◌then◌else◌, [], Result, Ok, Err}
+use Rattle.page_words.specs.Programs.{Program, pure, load, ◌>>=◌}
+use Rattle.ghcb_layout.specs.declared.field.Field.TheVariants.{Rax, Rcx, Rdx, Rbx, ExitInfo1, ExitInfo2}
+use Rattle.ghcb_layout.specs.declared.bitmap.Bitmap.{Bitmap}
+use Rattle.ghcb_layout.specs.Bitmap.{has_bit}
+use Rattle.ghcb_layout.specs.Field.{word_number}
+use Rattle.exit_info.specs.declared.inject.Inject.{Inject}
+use Rattle.exit_info.specs.declared.inject.BadInject.{BadInject}
+use Rattle.exit_info.specs.Inject.{request_of}
+use Rattle.event_table.specs.declared.access.Values.{Values}
+use Rattle.event_table.specs.declared.end.Reason.TheVariants.{BadStatus, BadException, MissingResult}
+use Rattle.event_table.specs.declared.event.Event.{Event}
+use Rattle.event_table.specs.declared.event.Event.TheVariants.{One}
+use Rattle.event_table.specs.declared.outcome.Outcome.{Outcome}
+use Rattle.event_table.specs.declared.outcome.Outcome.TheVariants.{Done, Raise, Terminate}
+use Rattle.event_table.specs.declared.row.Results.{Results}
+use Rattle.event_table.specs.Rows.{row_of, kind_of}
+use Rattle.vc_handler.specs.Wire.{bitmap_low, bitmap_high}
+
+-- a word, where it is asked for, and else 0
+abbrev pub load_if : Bool → ℕ → Program ℕ
+load_if is word = if is then load word else pure 0
+
+-- the upper word of the valid bitmap has a bit of a result
+abbrev pub has_upper : Results → Bool
+has_upper r = r.c || r.d || r.b
+
+-- the words of the valid bitmap, each where a result has its bit there
+abbrev pub bitmap : Results → Program Bitmap
+bitmap r = do
+  low ← load_if r.a bitmap_low
+  high ← load_if (has_upper r) bitmap_high
+  pure (record { low = low; high = high })
+
+-- each result has its bit
+abbrev pub has_all : Results → Bitmap → Bool
+has_all r b =
+    (not r.a || has_bit b (word_number Rax)) && (not r.c || has_bit b (word_number Rcx))
+    && (not r.d || has_bit b (word_number Rdx)) && (not r.b || has_bit b (word_number Rbx))
+
+-- whole words: they are cut to the row's width where they are placed
+abbrev pub values : Results → Program Values
+values r = do
+  a ← load_if r.a (word_number Rax)
+  c ← load_if r.c (word_number Rcx)
+  d ← load_if r.d (word_number Rdx)
+  b ← load_if r.b (word_number Rbx)
+  pure (record { a = a; c = c; d = d; b = b })
+
+abbrev pub done : Values → Outcome
+done v = Done (record { values = v; bytes = [] })
+
+-- the results, where all of them have their bits
+abbrev pub results_by : Results → Bitmap → Program Outcome
+results_by r b = if has_all r b then values r >>= (λ v. pure (done v)) else pure (Terminate (MissingResult b.low b.high))
+
+abbrev pub results : Results → Program Outcome
+results r = bitmap r >>= (λ b. results_by r b)
+
+abbrev pub requested : ℕ → Result Inject BadInject → Outcome
+requested word (Ok i) = Raise i.vector i.code
+requested word (Err bad) = Terminate (BadException word)
+
+-- the exception that is asked for
+abbrev pub exception : Program Outcome
+exception = do
+  word ← load (word_number ExitInfo2)
+  pure (requested word (request_of word))
+
+abbrev pub accepting_by : Results → Program Outcome
+accepting_by r = do
+  status ← load (word_number ExitInfo1)
+  if status % 2 ^ 32 == 0 then results r else if status % 2 ^ 32 == 1 then exception else pure (Terminate (BadStatus status))
+
+-- The status is the low half of SW_EXITINFO1: 0 says done, and 1 asks for an exception; the guest terminates at any other.
+abbrev pub accepting : Event → Program Outcome
+accepting (One access) = accepting_by (row_of (kind_of access)).results

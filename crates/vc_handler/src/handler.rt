@@ -1,0 +1,139 @@
+// The #VC handler of a vCPU.
+ghost use Rattle.std.specs.Prelude.{◌≡◌, [], ◌∷◌, IfOk, IfSome};
+ghost use Rattle.page_words.specs.Told.{HasRoom, Makes};
+ghost use Rattle.page_words.specs.Programs.{Reads};
+ghost use Rattle.page_words.specs.declared.item.Item.TheVariants.{Exit};
+ghost use Rattle.event_table.specs.Lawful.{IsLawful, IsLawfulAccess};
+ghost use Rattle.event_table.specs.Places.{vcpu};
+ghost use Rattle.vc_handler.specs.Accept.{accepting};
+ghost use Rattle.vc_handler.specs.Begin.{begun};
+ghost use Rattle.vc_handler.specs.Version.{Negotiates, farewell, question};
+ghost use Rattle.vc_handler.specs.Wire.{ghcb_of, wire};
+
+use crate::accept::take_reply;
+use crate::wire::show_event;
+use event_table::{Access, Event, Outcome, Reason, kind_of, named, registers_of, row_of};
+use image_file::Ram;
+use insn_decode::decode;
+use msr_protocol::{MsrWord, write};
+use page_words::Page;
+use std::marker::Model;
+use x86_base::Regs;
+
+/// A code of #VC that no event of the instruction at RIP has; it keeps the code.
+#[derive(Clone, Copy, Debug, PartialEq, Eq)]
+pub struct Unsupported(pub u64);
+
+/// The event of an access, where it has this code.
+fn of_code(code: u64, access: Option<Access>) -> Result<Event, Unsupported>
+    requires lawful { IfSome access IsLawfulAccess }
+    ensures event { result ≡ Rattle.vc_handler.specs.Begin.of_code code access }
+    ensures lawful { IfOk result IsLawful }
+{
+    match access {
+        Some(access) if row_of(&kind_of(&access)).code == code => Ok(Event::One(access)),
+        _ => Err(Unsupported(code)),
+    }
+}
+
+/// The #VC handler of one vCPU.
+#[derive(Clone, Copy)]
+pub struct Vc {
+    vcpu: u16,
+}
+
+impl Model for Vc {
+    ghost use Rattle.std.specs.Prelude.{ℕ};
+
+    ghost Value = { ℕ };
+
+    ghost view = { λ v. v.vcpu };
+
+    ghost inverse = { λ n. record { vcpu = n } };
+}
+
+impl Vc {
+    /// The handler of vCPU `vcpu`.
+    pub fn new(vcpu: u16) -> Vc
+        ensures vcpu { result ≡ vcpu }
+    {
+        Vc { vcpu }
+    }
+
+    /// The address of the vCPU's page.
+    pub fn ghcb(&self) -> u64
+        ensures address { result ≡ ghcb_of self.now }
+    {
+        0x8000_0000 + 0x1000 * u64::from(self.vcpu)
+    }
+
+    /// The event for which #VC was raised with this code: what the instruction at RIP, which is decoded
+    /// again, asks. Unsupported exactly where the bytes there are no instruction that exits with this code.
+    pub fn begin(&self, code: u64, regs: &Regs, ram: &Ram) -> Result<Event, Unsupported>
+        ensures event { result ≡ begun code (vcpu regs.now ram.now) }
+        ensures lawful { IfOk result IsLawful }
+    {
+        let Ok(insn) = decode(ram.code_at(regs.rip)) else {
+            return Err(Unsupported(code));
+        };
+        of_code(code, named(regs, ram, &insn))
+    }
+
+    /// Shows an event: exactly its wire form, in order.
+    pub fn show<P: Page>(&self, event: &Event, page: &mut P)
+        requires lawful { IsLawful event.now }
+        requires room { HasRoom (P.told page.old) 320 }
+        ensures wire { Makes (P.told page.old) (wire self.now event.now) (P.told page.new) }
+    {
+        let Event::One(access) = event;
+        let row = row_of(&kind_of(access));
+        show_event(page, &row, &registers_of(access), self.ghcb());
+    }
+
+    /// Takes the reply to an event: exactly these loads, each word at most once, and what they come to.
+    pub fn accept<P: Page>(&self, event: &Event, page: &mut P) -> Outcome
+        requires lawful { IsLawful event.now }
+        requires room { HasRoom (P.told page.old) 320 }
+        ensures reads { Reads (accepting event.now) result (P.told page.old) (P.told page.new) }
+        ensures room { HasRoom (P.told page.new) 1 }
+    {
+        let Event::One(access) = event;
+        take_reply(page, &row_of(&kind_of(access)).results)
+    }
+
+    /// Asks the host for its versions of the protocol.
+    pub fn ask<P: Page>(&self, page: &mut P)
+        requires room { HasRoom (P.told page.old) 1 }
+        ensures exit { Makes (P.told page.old) (Exit question ∷ []) (P.told page.new) }
+    {
+        page.exit(write(&MsrWord::SevInfoRequest));
+    }
+
+    /// Reads the host's answer: version 1, where the word is an answer and its range has 1, whatever its
+    /// other bits.
+    pub fn negotiate<P: Page>(&self, page: &mut P) -> Result<u16, Reason>
+        requires room { HasRoom (P.told page.old) 1 }
+        ensures version { Negotiates result (P.told page.old) (P.told page.new) }
+    {
+        let word = page.msr();
+        let max = word >> 48;
+        let min = word >> 32 & 0xFFFF;
+        if word & 0xFFF == 0x001 && min <= 1 && 1 <= max {
+            Ok(1)
+        } else {
+            Err(Reason::NoProtocol(word))
+        }
+    }
+
+    /// Tells the host that the guest ends its communication, and why: no version fits, or the general reason.
+    pub fn terminate<P: Page>(&self, reason: &Reason, page: &mut P)
+        requires room { HasRoom (P.told page.old) 1 }
+        ensures exit { Makes (P.told page.old) (Exit (farewell reason.now) ∷ []) (P.told page.new) }
+    {
+        let code = match reason {
+            Reason::NoProtocol(_) => 1,
+            _ => 0,
+        };
+        page.exit(write(&MsrWord::Terminate { set: 0, code }));
+    }
+}

@@ -1,0 +1,103 @@
+// How the words of an event are shown.
+ghost use Rattle.std.specs.Prelude.{◌≡◌, ◌<◌, ◌≤◌, ◌+◌, ◌%◌, ◌^◌, map, [], ◌∷◌, ◌++◌, if◌then◌else◌};
+ghost use Rattle.page_words.specs.Told.{Makes};
+ghost use Rattle.page_words.specs.declared.item.Item.TheVariants.{Exit};
+ghost use Rattle.ghcb_layout.specs.Field.{word_number};
+ghost use Rattle.vc_handler.specs.Room.{room_of};
+ghost use Rattle.vc_handler.specs.Wire.{bitmap_of as bits_of_words, given, shown, store as store_item, stored};
+
+use event_table::{Registers, Row};
+use ghcb_layout::{Bitmap, Field, bit_of, protocol_word, word_of};
+use page_words::{Page, Word};
+
+/// The words of the valid bitmap.
+pub const BITMAP_LOW: u16 = 126;
+
+pub const BITMAP_HIGH: u16 = 127;
+
+/// The word of the protocol version and the usage.
+const LAST: u16 = 511;
+
+/// Stores a word by its number.
+fn store<P: Page>(page: &mut P, number: u16, value: u64)
+    requires number { number < 512 }
+    requires room { 1 ≤ room_of (P.told page.old) }
+    ensures makes { Makes (P.told page.old) (map store_item ((number, value) ∷ [])) (P.told page.new) }
+    ensures room { room_of (P.told page.old) ≤ room_of (P.told page.new) + 1 }
+{
+    page.store(Word::new(number).unwrap(), value);
+}
+
+/// Shows a field, where its row has it.
+fn show_if<P: Page>(page: &mut P, field: Field, is: bool, value: u64)
+    requires room { 1 ≤ room_of (P.told page.old) }
+    ensures makes { Makes (P.told page.old) (map store_item (given field is value)) (P.told page.new) }
+    ensures room { room_of (P.told page.old) ≤ room_of (P.told page.new) + 1 }
+{
+    if is {
+        page.store(word_of(field), value);
+    }
+}
+
+/// Whether XCR0 is shown: with the leaf of the extended state.
+fn shows_xcr0(row: &Row, a: u64) -> bool
+    ensures value { result ≡ Rattle.vc_handler.specs.Wire.shows_xcr0 row.now a }
+{
+    row.shows.a && row.shows.xcr && a & 0xFFFF_FFFF == 0xD
+}
+
+/// A field's bit in its word of the valid bitmap, where it is shown, and else 0.
+fn bit_if(field: Field, is: bool) -> u64
+    ensures value { result ≡ (if is then 2 ^ (word_number field % 64) else 0) }
+{
+    if is { 1 << (bit_of(field) % 64) } else { 0 }
+}
+
+/// The valid bitmap of the words that are shown.
+fn bitmap_of(row: &Row, registers: &Registers) -> Bitmap
+    ensures value { result ≡ bits_of_words (shown row.now registers.now) }
+{
+    let low = bit_if(Field::Cpl, row.shows.cpl) + bit_if(Field::Rax, row.shows.a);
+    let registers_shown = bit_if(Field::Rcx, row.shows.c) + bit_if(Field::Rdx, row.shows.d);
+    let infos = bit_if(Field::ExitCode, true)
+        + bit_if(Field::ExitInfo1, true)
+        + bit_if(Field::ExitInfo2, true);
+    let xcr0 = bit_if(Field::Xcr0, shows_xcr0(row, registers.a));
+    Bitmap {
+        low,
+        high: registers_shown + infos + xcr0,
+    }
+}
+
+/// Shows the words of a row, in the order of the page.
+fn show_row<P: Page>(page: &mut P, row: &Row, registers: &Registers)
+    requires room { 8 ≤ room_of (P.told page.old) }
+    ensures makes { Makes (P.told page.old) (map store_item (shown row.now registers.now)) (P.told page.new) }
+    ensures room { room_of (P.told page.old) ≤ room_of (P.told page.new) + 8 }
+{
+    let xcr = shows_xcr0(row, registers.a);
+    show_if(page, Field::Cpl, row.shows.cpl, 0);
+    show_if(page, Field::Rax, row.shows.a, registers.a);
+    show_if(page, Field::Rcx, row.shows.c, registers.c);
+    show_if(page, Field::Rdx, row.shows.d, registers.d);
+    show_if(page, Field::ExitCode, true, row.code);
+    show_if(page, Field::ExitInfo1, true, row.info);
+    show_if(page, Field::ExitInfo2, true, 0);
+    show_if(page, Field::Xcr0, xcr, 1);
+}
+
+/// Stores all words of an event, and exits. The old bitmap goes first, so that no bit of it stands beside
+/// a new word.
+pub fn show_event<P: Page>(page: &mut P, row: &Row, registers: &Registers, ghcb: u64)
+    requires room { 14 ≤ room_of (P.told page.old) }
+    ensures makes { Makes (P.told page.old) (map store_item (stored row.now registers.now) ++ Exit ghcb ∷ []) (P.told page.new) }
+{
+    let bitmap = bitmap_of(row, registers);
+    store(page, BITMAP_LOW, 0);
+    store(page, BITMAP_HIGH, 0);
+    show_row(page, row, registers);
+    store(page, BITMAP_LOW, bitmap.low);
+    store(page, BITMAP_HIGH, bitmap.high);
+    store(page, LAST, protocol_word(1, 0));
+    page.exit(ghcb);
+}
