@@ -5,7 +5,7 @@ use Rattle.event_table.specs.declared.event.Event.TheVariants.{One}
 use Rattle.event_table.specs.declared.turn.Turn.{Turn}
 use Rattle.event_table.specs.Lawful.{count_of}
 use Rattle.host_events.specs.declared.history.Entry.{Entry}
-use Rattle.host_events.specs.Devices.{Devices, opening, after_access}
+use Rattle.device_bus.specs.Devices.{Devices, opening, after_access}
 
 -- the turn that an entry is
 abbrev pub turn_of : Entry → Turn

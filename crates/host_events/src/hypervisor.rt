@@ -1,10 +1,12 @@
 // A host that keeps its devices and its history.
 ghost use Rattle.std.specs.Prelude.{◌≡◌, []};
-ghost use Rattle.host_events.specs.Devices.{opening};
+ghost use Rattle.device_bus.specs.Devices.{opening};
 ghost use Rattle.host_events.specs.Hypervised.{telling};
 
-use crate::call::{read_call, store_reply};
-use crate::{Bus, Entry, Host};
+use crate::reading::read_call;
+use crate::reply::{cpuid_response, sev_info, store_refusal, store_reply};
+use crate::{Call, Entry, Host};
+use device_bus::Bus;
 use event_table::{Event, Turn};
 use page_words::Words;
 use std::alloc::{AllocError as OutOfMemory, Global};
@@ -19,11 +21,14 @@ pub struct Hypervisor {
 }
 
 impl Model for Hypervisor {
+    ghost use Rattle.std.specs.Prelude.{◌≡◌, ◌≤◌};
     ghost use Rattle.host_events.specs.Hypervised.{Hypervised};
 
     ghost Value = { Hypervised };
 
     ghost view = { λ h. record { vcpus = h.vcpus; devices = h.bus.devices; history = h.history.items } };
+
+    ghost invariant = { λ h. (h.vcpus ≤ 8) × (h.bus.devices.vcpus ≡ h.vcpus) };
 }
 
 impl Hypervisor {
@@ -53,11 +58,19 @@ impl Host for Hypervisor {
     fn serve(&mut self, vcpu: u16, page: &mut Words) -> Result<(), OutOfMemory> {
         self.bus.reserve(1)?;
         self.history.reserve(1)?;
-        if let Some(event) = read_call(vcpu, page) {
-            let Event::One(access) = event;
-            let answer = self.bus.access(vcpu, &access);
-            store_reply(&event, &answer, page);
-            let _ = self.history.push(Entry { vcpu, event });
+        match read_call(vcpu, page) {
+            Call::Nothing => {}
+            Call::SevInfo => page.set_msr(sev_info()),
+            Call::Cpuid { function, register } => {
+                page.set_msr(cpuid_response(vcpu, function, register));
+            }
+            Call::Malformed(_) => store_refusal(page),
+            Call::Asked(event) => {
+                let Event::One(access) = event;
+                let answer = self.bus.access(vcpu, &access);
+                store_reply(&event, &answer, page);
+                let _ = self.history.push(Entry { vcpu, event });
+            }
         }
         Ok(())
     }

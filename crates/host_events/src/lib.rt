@@ -1,17 +1,18 @@
 //! The host of the guests: it serves their pages over its devices and keeps the history of what it served.
 #![tactic(auto)]
 
-mod bus;
 mod call;
 mod history;
 mod host;
 mod hypervisor;
+mod reading;
+mod reply;
 #[cfg(test)]
 mod tests;
-mod wire;
 
-pub use bus::{Answer, Bus};
+pub use call::{BadPage, Call};
+pub use device_bus::cpuid_register;
 pub use history::Entry;
 pub use host::Host;
 pub use hypervisor::Hypervisor;
-pub use wire::{bitmap_high_word, bitmap_low_word, out_bitmap, out_info, protocol_word_number};
+pub use reading::read_call;

@@ -1,0 +1,4 @@
+pub mod Back
+pub mod Taken
+pub mod Agreeing
+pub mod Exchanging

@@ -1,0 +1,45 @@
+//! Both ends of the page agree: what a guest shows is what its hypervisor serves, and what the hypervisor
+//! leaves is what the guest takes.
+#![tactic(auto)]
+
+ghost use Rattle.std.specs.Prelude.{◌≡◌, ◌<◌, IfOk, OnErr};
+ghost use Rattle.event_table.specs.Lawful.{IsLawful};
+ghost use Rattle.both_ends.specs.BothEnds.{BothEndsAgree};
+ghost use Rattle.both_ends.specs.Exchange.{Exchanged};
+
+use event_table::{Event, Outcome};
+use host_events::Host;
+use page_words::{Word, Words};
+use std::alloc::AllocError as OutOfMemory;
+use vc_handler::Vc;
+
+#[cfg(test)]
+mod tests;
+
+/// A page on which an event was shown is served with that event, and its reply is taken with what the
+/// devices say.
+pub fn agree()
+    ensures law { BothEndsAgree }
+{}
+
+/// Shows an event on the page of a vCPU, whatever stands there, has the page served and takes the reply.
+/// Refused, the host is as before, and the event stands on the page.
+pub fn exchange<H: Host>(
+    vcpu: u16,
+    event: &Event,
+    page: &mut Words,
+    host: &mut H,
+) -> Result<Outcome, OutOfMemory>
+    requires known { vcpu < (H.told host.old).vcpus }
+    requires few { vcpu < 8 }
+    requires lawful { IsLawful event.now }
+    ensures exchanged { IfOk result (λ outcome. Exchanged vcpu event.now (H.told host.old) (H.told host.new) outcome) }
+    ensures err { OnErr result (H.told host.new ≡ H.told host.old) }
+{
+    // By its clause a page has 512 words.
+    let _ = page.word(Word::new(0).unwrap());
+    let vc = Vc::new(vcpu);
+    vc.show(event, page);
+    host.serve(vcpu, page)?;
+    Ok(vc.accept(event, page))
+}
