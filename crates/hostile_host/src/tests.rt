@@ -1,0 +1,204 @@
+// Guests over scripts: each trace item by item, the end, the steps and RAX.
+ghost use Rattle.std.specs.Prelude.{◌<◌, length};
+
+use crate::hostile_run;
+use event_table::{End, Reason};
+use image_file::Image;
+use page_words::{Item, Recorded, Script, Word};
+use std::alloc::Global;
+use std::test::Fail;
+use vcpu_core::Vcpu;
+use x86_base::Reg;
+
+/// The host offers version 1.
+const VERSION_1: u64 = 0x0001_0001_3300_0001;
+
+/// MOV EDX, 3F8h; MOV AL, 48h; OUT DX, AL; HLT.
+const PRINTS: [u8; 9] = [0xBA, 0xF8, 3, 0, 0, 0xB0, 0x48, 0xEE, 0xF4];
+
+/// MOV RAX, 1122334455667788h; MOV EDX, 3F8h; IN AL, DX; HLT.
+const READS: [u8; 17] = [
+    0x48, 0xB8, 0x88, 0x77, 0x66, 0x55, 0x44, 0x33, 0x22, 0x11, 0xBA, 0xF8, 3, 0, 0, 0xEC, 0xF4,
+];
+
+// A run and its record.
+#[derive(Drop)]
+struct Run {
+    vcpu: Vcpu,
+    page: Recorded<Script>,
+}
+
+// A guest of that code against a script.
+fn run_over(alloc: Global, code: &[u8], words: &[u64]) -> Result<Run, Fail>
+    requires { length code.now < 256 }
+{
+    let mut file = Vec::from_slice(alloc, b"GHCBIMG1\x01\0\0\0\0\x10\0\0")?;
+    file.push(code.len() as u8)?;
+    file.resize(64, 0)?;
+    file.extend_from_slice(code)?;
+    let image = Image::read(alloc, &file)?;
+    let mut page = Recorded::new(alloc, Script::new(Vec::from_slice(alloc, words)?));
+    let vcpu = hostile_run(alloc, &image, 100, &mut page)?;
+    Ok(Run { vcpu, page })
+}
+
+fn store(number: u16, value: u64) -> Item
+    requires { number < 512 }
+{
+    Item::Store(Word::new(number).unwrap(), value)
+}
+
+fn load(number: u16, value: u64) -> Item
+    requires { number < 512 }
+{
+    Item::Load(Word::new(number).unwrap(), value)
+}
+
+// What the printing guest makes up to its exit.
+fn printed() -> [Item; 12] {
+    [
+        Item::Exit(2),
+        Item::Msr(VERSION_1),
+        store(126, 0),
+        store(127, 0),
+        store(63, 0x48),
+        store(114, 0x7B),
+        store(115, 0x03F8_0210),
+        store(116, 0),
+        store(126, 0x8000_0000_0000_0000),
+        store(127, 0x001C_0000_0000_0000),
+        store(511, 0x1_0000),
+        Item::Exit(0x8000_0000),
+    ]
+}
+
+// What the reading guest makes up to its exit, where its event has this word.
+fn asked(info: u64) -> [Item; 11] {
+    [
+        Item::Exit(2),
+        Item::Msr(VERSION_1),
+        store(126, 0),
+        store(127, 0),
+        store(114, 0x7B),
+        store(115, info),
+        store(116, 0),
+        store(126, 0),
+        store(127, 0x001C_0000_0000_0000),
+        store(511, 0x1_0000),
+        Item::Exit(0x8000_0000),
+    ]
+}
+
+// Whether these are all the items, in two parts.
+fn are(items: &[Item], first: &[Item], last: &[Item]) -> bool {
+    items.len() >= first.len() && &items[..first.len()] == first && &items[first.len()..] == last
+}
+
+#[test]
+fn no_version_ends_the_guest_before_its_first_step(rt: HostRuntime) -> Result<(), Fail> {
+    let run = run_over(rt.alloc(), &PRINTS, &[])?;
+    let made = [Item::Exit(2), Item::Msr(0), Item::Exit(0x1_0100)];
+    assert!(rt; are(run.page.items(), &made, &[]));
+    assert_eq!(rt;
+        run.vcpu.end(),
+        Some(End::Terminated(Reason::NoProtocol(0)))
+    );
+    assert_eq!(rt; run.vcpu.steps(), 0);
+    Ok(())
+}
+
+#[test]
+fn a_byte_is_shown_and_its_reply_taken(rt: HostRuntime) -> Result<(), Fail> {
+    let run = run_over(rt.alloc(), &PRINTS, &[VERSION_1])?;
+    assert!(rt; are(run.page.items(), &printed(), &[load(115, 0)]));
+    assert_eq!(rt; run.vcpu.end(), Some(End::Halted));
+    assert_eq!(rt; run.vcpu.steps(), 4);
+    Ok(())
+}
+
+#[test]
+fn an_exception_without_a_handler_is_a_fault(rt: HostRuntime) -> Result<(), Fail> {
+    let run = run_over(rt.alloc(), &PRINTS, &[VERSION_1, 1, 0x8000_0B0D])?;
+    assert!(rt;
+        are(
+            run.page.items(),
+            &printed(),
+            &[load(115, 1), load(116, 0x8000_0B0D)]
+        )
+    );
+    assert_eq!(rt; run.vcpu.end(), Some(End::Fault(13)));
+    assert_eq!(rt; run.vcpu.steps(), 2);
+    Ok(())
+}
+
+#[test]
+fn another_vector_ends_the_communication(rt: HostRuntime) -> Result<(), Fail> {
+    let run = run_over(rt.alloc(), &PRINTS, &[VERSION_1, 1, 0x8000_0B0E])?;
+    let last = [load(115, 1), load(116, 0x8000_0B0E), Item::Exit(0x100)];
+    assert!(rt; are(run.page.items(), &printed(), &last));
+    assert_eq!(rt;
+        run.vcpu.end(),
+        Some(End::Terminated(Reason::BadException(0x8000_0B0E)))
+    );
+    assert_eq!(rt; run.vcpu.steps(), 2);
+    Ok(())
+}
+
+#[test]
+fn a_result_without_its_valid_bit_is_not_taken(rt: HostRuntime) -> Result<(), Fail> {
+    let code = [0xBA, 0xF8, 3, 0, 0, 0xEC, 0xF4];
+    let run = run_over(rt.alloc(), &code, &[VERSION_1])?;
+    let last = [load(115, 0), load(126, 0), Item::Exit(0x100)];
+    assert!(rt; are(run.page.items(), &asked(0x03F8_0211), &last));
+    assert_eq!(rt;
+        run.vcpu.end(),
+        Some(End::Terminated(Reason::MissingResult(0, 0)))
+    );
+    assert_eq!(rt; run.vcpu.steps(), 1);
+    Ok(())
+}
+
+#[test]
+fn a_result_is_cut_to_its_width(rt: HostRuntime) -> Result<(), Fail> {
+    let words = [VERSION_1, 0, 0x8000_0000_0000_0000, 0xFFFF_FFFF_FFFF_FF41];
+    let last = [load(115, 0), load(126, words[2]), load(63, words[3])];
+    let byte = run_over(rt.alloc(), &READS, &words)?;
+    assert!(rt; are(byte.page.items(), &asked(0x03F8_0211), &last));
+    assert_eq!(rt; byte.vcpu.end(), Some(End::Halted));
+    assert_eq!(rt; byte.vcpu.steps(), 4);
+    assert_eq!(rt; byte.vcpu.regs().get(Reg::Rax), 0x1122_3344_5566_7741);
+    let mut code = READS;
+    code[15] = 0xED;
+    let double = run_over(rt.alloc(), &code, &words)?;
+    assert!(rt; are(double.page.items(), &asked(0x03F8_0241), &last));
+    assert_eq!(rt; double.vcpu.regs().get(Reg::Rax), 0xFFFF_FF41);
+    Ok(())
+}
+
+// Whether two records agree up to the value that comes after so many.
+fn agree(items: &[Item], others: &[Item], values: usize) -> bool {
+    let mut left = values;
+    for (item, other) in items.iter().zip(others) {
+        if let Item::Load(_, _) | Item::Msr(_) = item {
+            if left == 0 {
+                return true;
+            }
+            left -= 1;
+        }
+        if item != other {
+            return false;
+        }
+    }
+    true
+}
+
+#[test]
+fn a_script_that_is_cut_agrees_up_to_the_cut(rt: HostRuntime) -> Result<(), Fail> {
+    let words = [VERSION_1, 0, 0x8000_0000_0000_0000, 0xFFFF_FFFF_FFFF_FF41];
+    let whole = run_over(rt.alloc(), &READS, &words)?;
+    for cut in 0..4 {
+        let part = run_over(rt.alloc(), &READS, &words[..cut])?;
+        assert!(rt; agree(whole.page.items(), part.page.items(), cut));
+    }
+    Ok(())
+}

@@ -1,0 +1,5 @@
+pub mod Going
+pub mod Raising
+pub mod Taking
+pub mod Settling
+pub mod Few

@@ -1,0 +1,73 @@
+-- What the values of the guest's code mean.
+use Rattle.std.specs.Prelude.{ℕ, ◌+◌, ◌<◌, Result, Ok, Err}
+use Rattle.x86_base.specs.declared.insn.Insn.{Insn}
+use Rattle.event_table.specs.declared.end.End.{End}
+use Rattle.event_table.specs.Lawful.{IsLawful, IsLawfulAccess}
+use Rattle.event_table.specs.Places.{Vcpu, vcpu}
+use Rattle.event_table.specs.Plan.{Stepped, Moved, Exits, Stops, setting, stepped}
+use Rattle.guest_interp.specs.Stepping.{Counted, at_count, counted, plan_of, Standstill, Waits, Ended}
+use Rattle.vcpu_core.specs.declared.phase.Phase.{Phase}
+use Rattle.vcpu_core.specs.declared.phase.Phase.TheVariants as phase
+use Rattle.vcpu_core.specs.declared.guest.Guest.{Guest}
+use Rattle.vcpu_core.specs.declared.guest.Step.{Step}
+use Rattle.vcpu_core.specs.declared.guest.Step.TheVariants as step
+use Rattle.vcpu_core.specs.declared.guest.Stop.{Stop}
+use Rattle.vcpu_core.specs.declared.guest.Stop.TheVariants as stops
+
+-- the vCPU of the code, and its counted steps
+abbrev pub vcpu_in : Guest → Vcpu
+vcpu_in g = vcpu g.regs g.ram
+
+abbrev pub plain : Guest → Counted
+plain g = at_count (vcpu_in g) g.steps
+
+-- what a decoded instruction does
+abbrev pub stepped_by : Insn → Vcpu → Stepped
+stepped_by i v = stepped v (plan_of i (setting v i.len))
+
+-- what an instruction came to, with the vCPU then
+abbrev pub as_stepped : Step → Vcpu → Stepped
+as_stepped step.Goes v = Moved v
+as_stepped (step.Asks access) v = Exits access v
+as_stepped (step.Ends end) v = Stops end v
+
+-- the steps then
+abbrev pub steps_then : Step → ℕ → ℕ
+steps_then step.Goes steps = steps + 1
+steps_then (step.Asks access) steps = steps
+steps_then (step.Ends end) steps = counted end steps
+
+-- what came of an access's results, with the vCPU then
+abbrev pub as_placed : {A : Type 0} → Result A End → Vcpu → Stepped
+as_placed (Ok _) v = Moved v
+as_placed (Err end) v = Stops end v
+
+-- the steps then
+abbrev pub steps_placed : {A : Type 0} → Result A End → ℕ → ℕ
+steps_placed (Ok _) steps = steps + 1
+steps_placed (Err end) steps = counted end steps
+
+-- where it stops
+abbrev pub as_stop : Stop → Counted → Standstill
+as_stop (stops.Waits event) c = Waits event c
+as_stop (stops.Ends end) c = Ended end c
+
+-- what it asks for is lawful
+abbrev pub IsLawfulStep : Step → Type 0
+IsLawfulStep (step.Asks access) = IsLawfulAccess access
+IsLawfulStep _ = Unit {0}
+
+-- what it waits for is lawful, and a step is left for it
+abbrev pub IsLawfulStop : Stop → ℕ → ℕ → Type 0
+IsLawfulStop (stops.Waits event) steps budget = IsLawful event × (steps < budget)
+IsLawfulStop (stops.Ends end) steps budget = Unit {0}
+
+-- where it stands once its access is answered
+abbrev pub phase_placed : {A : Type 0} → Result A End → Phase
+phase_placed (Ok _) = phase.Going
+phase_placed (Err end) = phase.Ended end
+
+-- where it stands at a stop
+abbrev pub phase_at : Stop → Phase
+phase_at (stops.Waits event) = phase.Waits event
+phase_at (stops.Ends end) = phase.Ended end

@@ -1,0 +1,5 @@
+pub mod Guest
+pub mod State
+pub mod Running
+pub mod Resuming
+pub mod Few

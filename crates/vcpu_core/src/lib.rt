@@ -1,0 +1,15 @@
+//! A vCPU that speaks over its page: it asks the host for its versions, goes on to each event, shows it,
+//! and takes the reply (AMD 56421, section 2.6 and "GHCB MSR Protocol").
+//!
+//! What it says and hears is told of every page, whoever stands behind it. No call takes memory.
+#![tactic(auto)]
+
+mod guest;
+pub mod laws;
+mod phase;
+#[cfg(test)]
+mod tests;
+mod turning;
+mod vcpu;
+
+pub use vcpu::{Progress, Vcpu};

@@ -1,0 +1,131 @@
+// A vCPU that speaks over its page.
+ghost use Rattle.std.specs.Prelude.{◌≡◌, false};
+ghost use Rattle.image_file.specs.Image.{opening_ram};
+ghost use Rattle.page_words.specs.Told.{HasRoom, Makes};
+ghost use Rattle.page_words.specs.Dialogue.{Runs};
+ghost use Rattle.vcpu_core.specs.declared.phase.Phase.TheVariants as phases;
+ghost use Rattle.vcpu_core.specs.State.{IsLawfulPhase, end_in, is_waiting, pending_in, start_of, state};
+ghost use Rattle.vcpu_core.specs.Running.{gone, progress_in, said};
+ghost use Rattle.vcpu_core.specs.Resuming.{resuming};
+
+use crate::guest::Guest;
+use crate::phase::Phase;
+use crate::turning::{go_on, hear};
+use event_table::End;
+use image_file::{Image, Ram};
+use page_words::Page;
+use std::marker::Model;
+use x86_base::Regs;
+
+/// What comes of going on: the vCPU stands at an exit, or has ended.
+#[derive(Clone, Copy, Debug, PartialEq, Eq)]
+pub enum Progress {
+    Exited,
+    Ended,
+}
+
+/// A vCPU of an image: its registers, its RAM, the steps that it has counted, and where it stands.
+#[derive(Drop)]
+pub struct Vcpu {
+    number: u16,
+    guest: Guest,
+    phase: Phase,
+}
+
+impl Model for Vcpu {
+    ghost use Rattle.vcpu_core.specs.State.{State, IsKept, state};
+    ghost use Rattle.vcpu_core.specs.Guest.{plain};
+
+    ghost Value = { State };
+
+    ghost view = { λ v. state v.number (plain v.guest) v.phase };
+
+    ghost invariant = { λ v. IsKept v.phase v.guest.steps };
+}
+
+impl Vcpu {
+    /// A vCPU of an image as it starts, over the RAM that the image opens with: it has said nothing yet.
+    pub fn new(image: &Image, vcpu: u16, ram: Ram) -> Vcpu
+        requires opening { ram ≡ opening_ram image.now }
+        ensures start { result ≡ state vcpu (start_of image.now vcpu) phases.New }
+    {
+        Vcpu {
+            number: vcpu,
+            guest: Guest::start(image, vcpu, ram),
+            phase: Phase::New,
+        }
+    }
+
+    /// The registers.
+    pub fn regs(&self) -> &Regs
+        ensures regs { result.now ≡ self.now.cpu.vcpu.regs }
+    {
+        &self.guest.regs
+    }
+
+    /// The RAM.
+    pub fn ram(&self) -> &Ram
+        ensures ram { result.now ≡ self.now.cpu.vcpu.ram }
+    {
+        &self.guest.ram
+    }
+
+    /// The steps that it has counted.
+    pub fn steps(&self) -> u64
+        ensures steps { result ≡ self.now.cpu.steps }
+    {
+        self.guest.steps
+    }
+
+    /// The end, where it has ended.
+    pub fn end(&self) -> Option<End>
+        ensures end { result ≡ end_in self.now.phase }
+    {
+        self.phase.end()
+    }
+
+    /// Whether it waits for the host: for its versions, or for the reply to an event.
+    pub fn waiting(&self) -> bool
+        ensures waiting { result ≡ is_waiting self.now.phase }
+    {
+        self.phase.is_waiting()
+    }
+
+    /// How many accesses the event is that it waits for: 0 where it waits for the host's versions, or
+    /// for nothing.
+    pub fn pending(&self) -> u16
+        ensures pending { result ≡ pending_in self.now.phase }
+    {
+        self.phase.pending()
+    }
+
+    /// Goes on to its next exit or its end. A new vCPU asks the host for its versions; later it shows its
+    /// next event, or ends with nothing said, within its budget of steps. One that waits stays at its
+    /// exit, and one that has ended stays ended.
+    pub fn run_to_exit<P: Page>(&mut self, _image: &Image, page: &mut P, budget: u64) -> Progress
+        requires room { HasRoom (P.told page.old) 320 }
+        ensures says { Makes (P.told page.old) (said budget self.old) (P.told page.new) }
+        ensures goes { self.new ≡ gone budget self.old }
+        ensures progress { result ≡ progress_in self.new.phase }
+        ensures lawful { IsLawfulPhase self.new.phase }
+        ensures number { self.new.number ≡ self.old.number }
+    {
+        self.phase = go_on(&mut self.guest, self.phase, self.number, page, budget);
+        match self.phase {
+            Phase::Ended(_) => Progress::Ended,
+            _ => Progress::Exited,
+        }
+    }
+
+    /// Hears what it waits for. It reads the host's versions once, and goes on at version 1 or tells the
+    /// host that it ends; or it takes the reply to its event, each word at most once, which is a step, an
+    /// end, or an end that the host is told. Afterwards it doesn't wait.
+    pub fn resume<P: Page>(&mut self, image: &Image, page: &mut P)
+        requires room { HasRoom (P.told page.old) 320 }
+        ensures runs { Runs (resuming image.now self.old) self.new (P.told page.old) (P.told page.new) }
+        ensures number { self.new.number ≡ self.old.number }
+        ensures rests { is_waiting self.new.phase ≡ false }
+    {
+        self.phase = hear(&mut self.guest, self.phase, self.number, image, page);
+    }
+}
