@@ -96,7 +96,7 @@ fn push_name(text: &mut Text, number: u8, field: Option<Field>)
         text.push_str(name(field));
     } else {
         text.push_str("word ");
-        text.push_three_digits(number);
+        text.push_three_digits(number.into());
     }
 }
 

@@ -27,8 +27,8 @@ impl Text {
     }
 
     /// A text of no byte.
-    pub(crate) fn new() -> Text
-        ensures { result ≡ [] }
+    pub fn new() -> Text
+        ensures empty { result ≡ [] }
     {
         Text {
             bytes: ArrayVec::new(),
@@ -36,8 +36,8 @@ impl Text {
     }
 
     /// Appends words.
-    pub(crate) fn push_str(&mut self, words: &str)
-        requires { length self.old + length words.now ≤ 4096 }
+    pub fn push_str(&mut self, words: &str)
+        requires room { length self.old + length words.now ≤ 4096 }
         ensures text { self.new ≡ self.old ++ words.now }
         ensures size { length self.new ≡ length self.old + length words.now }
     {
@@ -45,8 +45,8 @@ impl Text {
     }
 
     /// Appends a number in decimal after its label.
-    pub(crate) fn push_number(&mut self, label: &str, number: u64)
-        requires { length self.old + length label.now + 20 ≤ 4096 }
+    pub fn push_number(&mut self, label: &str, number: u64)
+        requires room { length self.old + length label.now + 20 ≤ 4096 }
         ensures text { self.new ≡ self.old ++ labelled label.now number }
         ensures size { length self.new ≤ length self.old + length label.now + 20 }
     {
@@ -55,8 +55,8 @@ impl Text {
     }
 
     /// Appends a word in sixteen hexadecimal digits after its label.
-    pub(crate) fn push_hex(&mut self, label: &str, word: u64)
-        requires { length self.old + length label.now + 16 ≤ 4096 }
+    pub fn push_hex(&mut self, label: &str, word: u64)
+        requires room { length self.old + length label.now + 16 ≤ 4096 }
         ensures text { self.new ≡ self.old ++ labelled_hex label.now word }
         ensures size { length self.new ≡ length self.old + length label.now + 16 }
     {
@@ -74,14 +74,15 @@ impl Text {
     }
 
     /// Appends the three decimal digits of a number.
-    pub(crate) fn push_three_digits(&mut self, number: u8)
-        requires { length self.old + 3 ≤ 4096 }
+    pub fn push_three_digits(&mut self, number: u16)
+        requires below { number < 1000 }
+        requires room { length self.old + 3 ≤ 4096 }
         ensures text { self.new ≡ self.old ++ three_digits_of number }
         ensures size { length self.new ≡ length self.old + 3 }
     {
-        self.push_byte(b'0' + number / 100);
-        self.push_byte(b'0' + number / 10 % 10);
-        self.push_byte(b'0' + number % 10);
+        self.push_byte(b'0' + (number / 100) as u8);
+        self.push_byte(b'0' + (number / 10 % 10) as u8);
+        self.push_byte(b'0' + (number % 10) as u8);
     }
 
     fn push_decimal(&mut self, number: u64)
