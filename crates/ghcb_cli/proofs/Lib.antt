@@ -1,13 +1,10 @@
-pub mod Going
 pub mod PlainRounds
-pub mod Accepting
-pub mod Settling
-pub mod Agreeing
 pub mod Visiting
+pub mod Meeting
 pub mod Seating
 pub mod Values
 pub mod Filling
 pub mod Limits
 pub mod Outputs
 pub mod Answering
-pub mod Bytes
+pub mod Readings

@@ -5,7 +5,7 @@ use Rattle.std.proofs.lemmas.Option.{same_Some}
 use Rattle.image_file.specs.Image.{Contents}
 use Rattle.event_table.specs.declared.turn.Finished.{Finished}
 use Rattle.event_table.specs.declared.turn.Turn.{Turn}
-use Rattle.host_events.specs.Devices.{Devices}
+use Rattle.device_bus.specs.Devices.{Devices}
 use Rattle.host_events.specs.Hosting.{Hosting}
 use Rattle.ghcb_cli.specs.Outside.{wrote}
 use Rattle.ghcb_cli.specs.Plain.{Machine, plain_run, rounds_machine}

@@ -9,13 +9,16 @@ use Rattle.event_table.specs.declared.turn.Turn.{Turn}
 use Rattle.event_table.specs.Lawful.{count_of}
 use Rattle.event_table.specs.Plan.{Stepped, Moved, Exits, Stops}
 use Rattle.guest_interp.specs.Stepping.{Counted, at_count, results_of, step_of, Standstill, Waits, Ended, stop_after, stop_answered, next_of, next_within}
-use Rattle.host_events.specs.declared.bus.Answer.{Answer}
-use Rattle.host_events.specs.declared.bus.Answer.TheVariants.{Done}
+use Rattle.device_bus.specs.declared.answer.Answer.{Answer}
+use Rattle.device_bus.specs.declared.answer.Answer.TheVariants.{Done, Raise}
 use Rattle.host_events.specs.declared.history.Entry.{Entry}
-use Rattle.host_events.specs.Devices.{Devices, answer}
+use Rattle.device_bus.specs.Devices.{Devices, answer}
 use Rattle.host_events.specs.History.{turn_of, turns_of, after_event, after_history}
-use Rattle.ghcb_cli.proofs.Going.{IsOver, results_over}
-use Rattle.ghcb_cli.specs.Plain.{Machine, start_of, first_stops, machine_at_start, answered, next_stop, next_devices, single, single_where, item, along, all_ended, where_ended, visit_where, visit, visits, rounds, rounds_machine, RoundsRun}
+use Rattle.vcpu_core.specs.State.{start_of}
+use Rattle.vcpu_core.specs.Resuming.{raised}
+use Rattle.vcpu_core.proofs.Going.{IsOver, results_over}
+use Rattle.vcpu_core.proofs.Raising.{raised_over}
+use Rattle.ghcb_cli.specs.Plain.{Machine, first_stops, machine_at_start, answered, next_stop, next_devices, single, single_where, item, along, all_ended, where_ended, visit_where, visit, visits, rounds, rounds_machine, RoundsRun}
 
 then_same : (image : Contents) (budget : ℕ) (xs ys : List Turn) (o : Option Machine) →
     ((next : Machine) → along image budget (xs ++ ys) next ≡ option_and_then (λ last. along image budget ys last) (along image budget xs next)) →
@@ -77,13 +80,15 @@ good_further low budget steps (Moved v) over from under = good_next (suc low) bu
 good_further low budget steps (Exits access v) over from under = absurd over
 good_further low budget steps (Stops end v) over from under = tt
 
-good_answered : (low budget : ℕ) (c : Counted) (a : Answer) → low ≤ c.steps → c.steps < budget →
-    IsGood (suc low) budget (stop_answered c.steps (answered a c) (λ gone. next_within budget gone))
-good_answered low budget c (Done values) from under = good_further low budget c.steps (results_of values c.vcpu) (results_over c.vcpu values) from under
+good_answered : (image : Contents) (low budget : ℕ) (c : Counted) (a : Answer) → low ≤ c.steps → c.steps < budget →
+    IsGood (suc low) budget (stop_answered c.steps (answered image a c) (λ gone. next_within budget gone))
+good_answered image low budget c (Done values) from under = good_further low budget c.steps (results_of values c.vcpu) (results_over c.vcpu values) from under
+good_answered image low budget c (Raise vector code) from under =
+    good_further low budget c.steps (raised image vector code c.vcpu) (raised_over image vector code c.vcpu) from under
 
 -- an answered event adds a step to its vCPU or ends it
 good_stop : (image : Contents) (low budget i : ℕ) (e : Event) (v : Counted) (d : Devices) → low ≤ v.steps → v.steps < budget → IsGood (suc low) budget (next_stop image budget i e v d)
-good_stop image low budget i (One access) v d from under = good_answered low budget v (answer d i access) from under
+good_stop image low budget i (One access) v d from under = good_answered image low budget v (answer d i access) from under
 
 -- The events so far are an order that leads here, the devices are what they leave, and every vCPU is good.
 pub record Reached (image : Contents) (budget : ℕ) (start m : Machine) (low k : ℕ) : Type 0 where

@@ -7,12 +7,13 @@ use Rattle.event_table.specs.declared.end.End.TheVariants.{Spent}
 use Rattle.event_table.specs.declared.turn.Turn.{Turn}
 use Rattle.event_table.specs.declared.turn.Finished.{Finished}
 use Rattle.image_file.specs.Image.{Contents}
-use Rattle.guest_interp.specs.Stepping.{Counted, Standstill, Waits, Ended, next_within}
-use Rattle.host_events.specs.Devices.{opening}
+use Rattle.guest_interp.specs.Stepping.{Standstill, Waits, Ended, next_within}
+use Rattle.device_bus.specs.Devices.{opening}
 use Rattle.host_events.specs.History.{turns_of, IsLegal}
 use Rattle.host_events.specs.Hosting.{Hosting, started, IsTelling}
+use Rattle.vcpu_core.specs.State.{State, start_of, end_in}
 use Rattle.ghcb_cli.specs.declared.seat.Seat.{Seat}
-use Rattle.ghcb_cli.specs.Plain.{Machine, start_of, first_stops, machine_at_start, all_ended, visit_where, visit, rounds, rounds_machine, rounds_order, plain_run, steps_of, ends_of}
+use Rattle.ghcb_cli.specs.Plain.{Machine, first_stops, machine_at_start, all_ended, visit_where, visit, rounds, rounds_machine, rounds_order, plain_run, steps_of, ends_of}
 use Rattle.ghcb_cli.specs.Standing.{IsAt, AreAt, AreNumbered, Tells, Stands, stop_then}
 use Rattle.ghcb_cli.specs.Ran.{RanRounds}
 use Rattle.ghcb_cli.proofs.PlainRounds.{rounds_plain, rounds_idle}
@@ -26,6 +27,17 @@ pub numbered_set : (i k : ℕ) (seats : List Seat) (seat : Seat) → AreNumbered
 numbered_set i k [] seat all is = tt
 numbered_set i zero (s ∷ ss) seat all is = let none : i + 0 ≡ i = omega arith in (is ∙ none, all.1)
 numbered_set i (suc k) (s ∷ ss) seat all is = let one : i + suc k ≡ i + 1 + k = omega arith in (all.0, numbered_set (i + 1) k ss seat all.1 (is ∙ one))
+
+numbered_append : (i k : ℕ) (seats : List Seat) (seat : Seat) → AreNumbered i seats → length seats ≡ k → seat.vcpu.number ≡ i + k → AreNumbered i (seats ++ seat ∷ [])
+numbered_append i k [] seat all many is = let none : i + k ≡ i = omega arith in (is ∙ none, tt)
+numbered_append i k (s ∷ ss) seat all many is =
+    let rest : length ss ≡ k - 1 = omega arith in
+    let one : i + k ≡ i + 1 + (k - 1) = omega arith in
+    (all.0, numbered_append (i + 1) (k - 1) ss seat all.1 rest (is ∙ one))
+
+-- one more seat with its number
+pub numbered_push : (k : ℕ) (seats : List Seat) (seat : Seat) → AreNumbered 0 seats → length seats ≡ k → seat.vcpu.number ≡ k → AreNumbered 0 (seats ++ seat ∷ [])
+numbered_push k seats seat all many is = let zeroth : k ≡ 0 + k = omega arith in numbered_append 0 k seats seat all many (is ∙ zeroth)
 
 pub numbered_at : (i : ℕ) (seats : List Seat) (stops : List Standstill) → AreAt i seats stops → AreNumbered i seats
 numbered_at i [] [] all = tt
@@ -115,41 +127,41 @@ first_push image budget k seats seat all many is at =
     subst (λ ss. AreAt 0 (seats ++ seat ∷ []) ss) (sym stops) (at_append 0 k seats (first_stops image budget 0 k) seat (next_within budget (start_of image k)) all many (is ∙ sym none) at)
 
 -- all ended as the seats show it
-pub ended_over : (i : ℕ) (seats : List Seat) (stops : List Standstill) → AreAt i seats stops → list_all (λ s. is_some s.vcpu.end) seats ≡ true → all_ended stops ≡ true
+pub ended_over : (i : ℕ) (seats : List Seat) (stops : List Standstill) → AreAt i seats stops → list_all (λ s. is_some (end_in s.vcpu.phase)) seats ≡ true → all_ended stops ≡ true
 ended_over i [] [] all over = refl
 ended_over i [] (x ∷ xs) all over = absurd all
 ended_over i (s ∷ ss) [] all over = absurd all
 ended_over i (s ∷ ss) (Waits e v ∷ xs) all over =
-    let wrong : (is_some {T = End} None && list_all (λ (y : Seat). is_some y.vcpu.end) ss) ≡ true = ap (λ (o : Option End). is_some o && list_all (λ (y : Seat). is_some y.vcpu.end) ss) (sym all.1.0.is_ended) ∙ over in cc
+    let wrong : (is_some {T = End} None && list_all (λ (y : Seat). is_some (end_in y.vcpu.phase)) ss) ≡ true = ap (λ (x : State). is_some (end_in x.phase) && list_all (λ (y : Seat). is_some (end_in y.vcpu.phase)) ss) (sym all.1.is_stopped) ∙ over in cc
 ended_over i (s ∷ ss) (Ended end v ∷ xs) all over =
-    let rest : (is_some (Some end) && list_all (λ (y : Seat). is_some y.vcpu.end) ss) ≡ true = ap (λ (o : Option End). is_some o && list_all (λ (y : Seat). is_some y.vcpu.end) ss) (sym all.1.0.is_ended) ∙ over in
+    let rest : (is_some (Some end) && list_all (λ (y : Seat). is_some (end_in y.vcpu.phase)) ss) ≡ true = ap (λ (x : State). is_some (end_in x.phase) && list_all (λ (y : Seat). is_some (end_in y.vcpu.phase)) ss) (sym all.1.is_stopped) ∙ over in
     ended_over (i + 1) ss xs all.2 rest
 
-steps_at : (i : ℕ) (seats : List Seat) (stops : List Standstill) → AreAt i seats stops → map (λ s. s.vcpu.guest.steps) seats ≡ steps_of stops
+steps_at : (i : ℕ) (seats : List Seat) (stops : List Standstill) → AreAt i seats stops → map (λ s. s.vcpu.cpu.steps) seats ≡ steps_of stops
 steps_at i [] [] all = refl
 steps_at i [] (x ∷ xs) all = absurd all
 steps_at i (s ∷ ss) [] all = absurd all
-steps_at i (s ∷ ss) (Waits e v ∷ xs) all = let rest : map (λ (s : Seat). s.vcpu.guest.steps) ss ≡ steps_of xs = steps_at (i + 1) ss xs all.2 in let one : s.vcpu.guest.steps ≡ v.steps = ap (λ (x : Counted). x.steps) all.1.0.is_plain in cc
-steps_at i (s ∷ ss) (Ended end v ∷ xs) all = let rest : map (λ (s : Seat). s.vcpu.guest.steps) ss ≡ steps_of xs = steps_at (i + 1) ss xs all.2 in let one : s.vcpu.guest.steps ≡ v.steps = ap (λ (x : Counted). x.steps) all.1.0.is_plain in cc
+steps_at i (s ∷ ss) (Waits e v ∷ xs) all = let rest : map (λ (s : Seat). s.vcpu.cpu.steps) ss ≡ steps_of xs = steps_at (i + 1) ss xs all.2 in let one : s.vcpu.cpu.steps ≡ v.steps = ap (λ (x : State). x.cpu.steps) all.1.is_stopped in cc
+steps_at i (s ∷ ss) (Ended end v ∷ xs) all = let rest : map (λ (s : Seat). s.vcpu.cpu.steps) ss ≡ steps_of xs = steps_at (i + 1) ss xs all.2 in let one : s.vcpu.cpu.steps ≡ v.steps = ap (λ (x : State). x.cpu.steps) all.1.is_stopped in cc
 
-ends_at : (i : ℕ) (seats : List Seat) (stops : List Standstill) → AreAt i seats stops → all_ended stops ≡ true → map (λ s. unwrap_or s.vcpu.end Spent) seats ≡ ends_of stops
+ends_at : (i : ℕ) (seats : List Seat) (stops : List Standstill) → AreAt i seats stops → all_ended stops ≡ true → map (λ s. unwrap_or (end_in s.vcpu.phase) Spent) seats ≡ ends_of stops
 ends_at i [] [] all ended = refl
 ends_at i [] (x ∷ xs) all ended = absurd all
 ends_at i (s ∷ ss) [] all ended = absurd all
 ends_at i (s ∷ ss) (Waits e v ∷ xs) all ended = cc
 ends_at i (s ∷ ss) (Ended end v ∷ xs) all ended =
-    let rest : map (λ (s : Seat). unwrap_or s.vcpu.end Spent) ss ≡ ends_of xs = ends_at (i + 1) ss xs all.2 ended in
-    ap (λ (o : Option End). unwrap_or o Spent ∷ map (λ (s : Seat). unwrap_or s.vcpu.end Spent) ss) all.1.0.is_ended ∙ ap (λ es. end ∷ es) rest
+    let rest : map (λ (s : Seat). unwrap_or (end_in s.vcpu.phase) Spent) ss ≡ ends_of xs = ends_at (i + 1) ss xs all.2 ended in
+    ap (λ (x : State). unwrap_or (end_in x.phase) Spent ∷ map (λ (s : Seat). unwrap_or (end_in s.vcpu.phase) Spent) ss) all.1.is_stopped ∙ ap (λ es. end ∷ es) rest
 
 -- the order, and the steps and ends of the seats
 pub record HandsBack (f : Finished) (turns : List Turn) (seats : List Seat) : Type 0 where
   pub order : f.order.items ≡ turns
-  pub steps : f.steps.items ≡ map (λ s. s.vcpu.guest.steps) seats
-  pub ends : f.ends.items ≡ map (λ s. unwrap_or s.vcpu.end Spent) seats
+  pub steps : f.steps.items ≡ map (λ s. s.vcpu.cpu.steps) seats
+  pub ends : f.ends.items ≡ map (λ s. unwrap_or (end_in s.vcpu.phase) Spent) seats
 
-pub hands_back : {E : Type 0} (r : Result Finished E) (turns : List Turn) (seats seen : List Seat) → seen ≡ seats → IfOk r (λ f. f.order.items ≡ turns) → IfOk r (λ f. f.steps.items ≡ map (λ s. s.vcpu.guest.steps) seen) → IfOk r (λ f. f.ends.items ≡ map (λ s. unwrap_or s.vcpu.end Spent) seen) → IfOk r (λ f. HandsBack f turns seats)
+pub hands_back : {E : Type 0} (r : Result Finished E) (turns : List Turn) (seats seen : List Seat) → seen ≡ seats → IfOk r (λ f. f.order.items ≡ turns) → IfOk r (λ f. f.steps.items ≡ map (λ s. s.vcpu.cpu.steps) seen) → IfOk r (λ f. f.ends.items ≡ map (λ s. unwrap_or (end_in s.vcpu.phase) Spent) seen) → IfOk r (λ f. HandsBack f turns seats)
 hands_back (Err e) turns seats seen same order steps ends = tt
-hands_back (Ok f) turns seats seen same order steps ends = record { order = order; steps = steps ∙ ap (λ ss. map (λ (s : Seat). s.vcpu.guest.steps) ss) same; ends = ends ∙ ap (λ ss. map (λ (s : Seat). unwrap_or s.vcpu.end Spent) ss) same }
+hands_back (Ok f) turns seats seen same order steps ends = record { order = order; steps = steps ∙ ap (λ ss. map (λ (s : Seat). s.vcpu.cpu.steps) ss) same; ends = ends ∙ ap (λ ss. map (λ (s : Seat). unwrap_or (end_in s.vcpu.phase) Spent) ss) same }
 
 -- what is handed back once all have ended
 pub ran : (image : Contents) (budget n : ℕ) (input : List ℕ) (seats : List Seat) (h : Hosting) (order : List Turn) (f : Finished) →
@@ -175,13 +187,25 @@ told_some : {X : Type 0} (o : Option X) (x : X) → IsSome o → option_map (λ 
 told_some None x some = cc
 told_some (Some y) x some = refl
 
--- a started host stands with the vCPUs at their first stops
-pub stands_first : (image : Contents) (budget : ℕ) (input : List ℕ) (seats : List Seat) (h0 h1 : Hosting) → IsTelling h0 → h1 ≡ started image.header.vcpus input h0 → AreAt 0 seats (first_stops image budget 0 image.header.vcpus) → Stands seats h1 [] (machine_at_start image budget input)
-stands_first image budget input seats h0 h1 telling starts all = record {
+-- a started host tells its devices
+starts_devices : (image : Contents) (input : List ℕ) (h0 h1 : Hosting) → IsTelling h0 → h1 ≡ started image.header.vcpus input h0 → h1.devices ≡ Some (opening image.header.vcpus input)
+starts_devices image input h0 h1 telling starts = ap (λ (h : Hosting). h.devices) starts ∙ told_some h0.devices (opening image.header.vcpus input) telling.0
+
+some_is : {X : Type 0} (o : Option X) (x : X) → o ≡ Some x → IsSome o
+some_is None x is = cc
+some_is (Some y) x is = refl
+
+pub starts_telling : (image : Contents) (input : List ℕ) (h0 h1 : Hosting) → IsTelling h0 → h1 ≡ started image.header.vcpus input h0 → IsSome h1.devices
+starts_telling image input h0 h1 telling starts = some_is h1.devices _ (starts_devices image input h0 h1 telling starts)
+
+-- a started host that has met the vCPUs stands with these at their first stops
+pub stands_first : (image : Contents) (budget : ℕ) (input : List ℕ) (seats : List Seat) (h0 h1 h2 : Hosting) → IsTelling h0 → h1 ≡ started image.header.vcpus input h0 →
+    h2.devices ≡ h1.devices → h2.history ≡ h1.history → AreAt 0 seats (first_stops image budget 0 image.header.vcpus) → Stands seats h2 [] (machine_at_start image budget input)
+stands_first image budget input seats h0 h1 h2 telling starts same_devices same_history all = record {
   seated = all;
   tells = record {
-    devices = ap (λ (h : Hosting). h.devices) starts ∙ told_some h0.devices (opening image.header.vcpus input) telling.0;
-    history = ap (λ (h : Hosting). h.history) starts ∙ told_some h0.history [] telling.1;
+    devices = same_devices ∙ starts_devices image input h0 h1 telling starts;
+    history = same_history ∙ ap (λ (h : Hosting). h.history) starts ∙ told_some h0.history [] telling.1;
     turns = refl;
   };
 }

@@ -1,109 +1,126 @@
 -- A vCPU gets one item.
-use Rattle.std.proofs.Common.{◌≡◌, ℕ, ◌+◌, List, [], ◌∷◌, ◌++◌, length, Option, Some, None, refl, sym, ap, ◌∙◌, subst}
+use Rattle.std.proofs.Common.{◌≡◌, ℕ, ◌+◌, ◌<◌, true, false, List, [], ◌∷◌, ◌++◌, length, Some, refl, sym, ap, ◌∙◌, subst}
 use Rattle.std.specs.Prelude.{option_map, IfSome}
 use Rattle.std.proofs.lemmas.List.{map-append}
 use Rattle.std.proofs.lemmas.Option.{same_Some}
-use Rattle.page_words.specs.Told.{Told, Kept, keeping, kept_after_all}
+use Rattle.page_words.specs.Told.{Told, Kept, Makes, keeping, kept_after_all}
+use Rattle.page_words.specs.Dialogue.{Left, Runs, found_in}
 use Rattle.page_words.proofs.Making.{kept-after_all}
+use Rattle.page_words.proofs.Dialogues.{runs_kept}
 use Rattle.event_table.specs.declared.event.Event.{Event}
 use Rattle.event_table.specs.declared.event.Event.TheVariants.{One}
-use Rattle.event_table.specs.declared.end.End.{End}
 use Rattle.event_table.specs.declared.outcome.Outcome.{Outcome}
 use Rattle.event_table.specs.declared.turn.Turn.{Turn}
 use Rattle.image_file.specs.Image.{Contents}
 use Rattle.event_table.specs.Plan.{Stepped, Moved, Exits as Asked, Stops}
-use Rattle.guest_interp.specs.Stepping.{Counted, at_count, counted, results_of, Standstill, Waits, Ended, stop_answered, next_within}
-use Rattle.host_events.specs.declared.bus.Answer.{Answer}
-use Rattle.host_events.specs.declared.bus.Answer.TheVariants.{Done}
-use Rattle.host_events.specs.Devices.{Devices, answer}
-use Rattle.host_events.specs.History.{turn_of}
-use Rattle.host_events.specs.Wire.{wire}
-use Rattle.host_events.specs.Served.{call_of, served, served_by, entries, entries_by}
+use Rattle.guest_interp.specs.Stepping.{Counted, at_count, Standstill, Waits, Ended, stop_answered, next_within}
+use Rattle.device_bus.specs.declared.answer.Answer.{Answer}
+use Rattle.device_bus.specs.declared.answer.Answer.TheVariants.{Done, Raise}
+use Rattle.device_bus.specs.Devices.{Devices, answer}
+use Rattle.host_events.specs.History.{turn_of, after_event}
+use Rattle.vc_handler.specs.Wire.{wire}
+use Rattle.vc_handler.specs.Accept.{accepting}
+use Rattle.host_events.specs.Served.{served, entries}
 use Rattle.host_events.specs.Hosting.{Hosting, after_serve, Leaves}
-use Rattle.ghcb_cli.specs.declared.vcpu.Vcpu.{Vcpu as AVcpu}
-use Rattle.ghcb_cli.specs.Accept.{outcome_on}
-use Rattle.ghcb_cli.specs.BothEnds.{outcome_of, answer_to, BothEnds}
-use Rattle.ghcb_cli.specs.Guest.{plain}
+use Rattle.both_ends.specs.BothEnds.{outcome_on, outcome_of, answer_to, Agrees, BothEndsAgree}
+use Rattle.vcpu_core.specs.declared.phase.Phase.TheVariants as phase
+use Rattle.vcpu_core.specs.State.{State, state, is_waiting, pending_in, IsLawfulPhase}
+use Rattle.vcpu_core.specs.Running.{gone, said, said_at, stopped}
+use Rattle.vcpu_core.specs.Resuming.{landed, resuming, settling}
+use Rattle.vcpu_core.proofs.Going.{IsOver, results_over}
+use Rattle.vcpu_core.proofs.Raising.{raised_over}
+use Rattle.vcpu_core.proofs.Settling.{found_listen}
 use Rattle.ghcb_cli.specs.Plain.{Machine, answered, next_stop, next_devices, single, visit_where}
-use Rattle.ghcb_cli.specs.Seats.{Is, Exits, Lands, Settles, Proceeds}
-use Rattle.ghcb_cli.specs.Standing.{IsAt, Tells, stop_then}
+use Rattle.ghcb_cli.specs.Standing.{IsAt, IsShown, Tells, stop_then}
 
--- a vCPU that has gone on to its exit is there
-exits_at : (i : ℕ) (stop : Standstill) (v : AVcpu) (old new : Kept) → length old.words ≡ 512 → Exits i stop v (keeping old) (keeping new) → IsAt i (record { vcpu = v; page = new }) stop
-exits_at i (Waits e v) vcpu old new full exits = (
-  exits.0,
-  record {
-    before = old;
-    shown = same_Some _ _ (ap (λ (t : Told). t.kept) exits.1.leaves ∙ kept-after_all (keeping old) (wire i e) old refl);
-    full = full;
-    byte = exits.2;
-  },
-)
-exits_at i (Ended end v) vcpu old new full exits = (exits.0, tt)
+-- what is said at a stop is shown there
+stop_shown : (i : ℕ) (stop : Standstill) (old new : Kept) → length old.words ≡ 512 → Makes (keeping old) (said_at i stop) (keeping new) → IsLawfulPhase (stopped i stop).phase → IsShown i stop new
+stop_shown i (Waits e c) old new full makes lawful = record {
+  before = old;
+  shown = same_Some _ _ (ap (λ (t : Told). t.kept) makes.leaves ∙ kept-after_all (keeping old) (wire i e) old refl);
+  full = full;
+  lawful = lawful;
+}
+stop_shown i (Ended end c) old new full makes lawful = tt
 
--- a vCPU that runs to its exit is there
-pub runs_on : (budget i : ℕ) (v : Counted) (v1 v2 : AVcpu) (old new : Kept) → v1.number ≡ i → Is v1 v None None → length old.words ≡ 512 →
-    Exits v1.number (next_within budget (plain v1.guest)) v2 (keeping old) (keeping new) → IsAt i (record { vcpu = v2; page = new }) (next_within budget v)
-runs_on budget i v v1 v2 old new number is full goes =
-    let here : Exits i (next_within budget (plain v1.guest)) v2 (keeping old) (keeping new) =
-    subst (λ n. Exits n (next_within budget (plain v1.guest)) v2 (keeping old) (keeping new)) number goes in
-    exits_at i _ v2 old new full (subst (λ (x : Counted). Exits i (next_within budget x) v2 (keeping old) (keeping new)) is.is_plain here)
+-- a vCPU that goes on by itself comes to its stop
+pub runs_on : (budget i : ℕ) (c : Counted) (v1 v2 : State) (old new : Kept) → v1 ≡ state i c phase.Going → length old.words ≡ 512 →
+    Makes (keeping old) (said budget v1) (keeping new) → v2 ≡ gone budget v1 → IsLawfulPhase v2.phase → IsAt i (record { vcpu = v2; page = new }) (next_within budget c)
+runs_on budget i c v1 v2 old new is full makes goes lawful =
+    let stop = next_within budget c in
+    let there : v2 ≡ stopped i stop = goes ∙ ap (λ (x : State). gone budget x) is in
+    record {
+      is_stopped = there;
+      is_shown =
+          stop_shown i stop old new full (subst (λ (x : State). Makes (keeping old) (said budget x) (keeping new)) is makes)
+          (subst (λ (x : State). IsLawfulPhase x.phase) there lawful);
+    }
 
--- one that has not ended goes on to its exit
-proceeds_on : (budget i : ℕ) (v : Counted) (v1 v2 : AVcpu) (old new : Kept) → v1.number ≡ i → Is v1 v None None → length old.words ≡ 512 →
-    Proceeds budget v1.end v1 v2 (keeping old) (keeping new) → IsAt i (record { vcpu = v2; page = new }) (next_within budget v)
-proceeds_on budget i v v1 v2 old new number is full proceeds =
-    runs_on budget i v v1 v2 old new number is full (subst (λ end. Proceeds budget end v1 v2 (keeping old) (keeping new)) is.is_ended proceeds)
+landed_gone : (budget i steps : ℕ) (s : Stepped) → gone budget (landed i steps s) ≡ stopped i (stop_answered steps s (λ c. next_within budget c))
+landed_gone budget i steps (Moved v) = refl
+landed_gone budget i steps (Asked access v) = refl
+landed_gone budget i steps (Stops end v) = refl
 
--- one that has ended stays
-proceeds_not : (budget i : ℕ) (v : Counted) (end : End) (v1 v2 : AVcpu) (old new : Kept) → Is v1 v None (Some end) →
-    Proceeds budget v1.end v1 v2 (keeping old) (keeping new) → IsAt i (record { vcpu = v2; page = new }) (Ended end v)
-proceeds_not budget i v end v1 v2 old new is proceeds =
-    let stays : (v2 ≡ v1) × (keeping new ≡ keeping old) = subst (λ end. Proceeds budget end v1 v2 (keeping old) (keeping new)) is.is_ended proceeds in (
-      record {
-        is_plain = ap (λ (x : AVcpu). plain x.guest) stays.0 ∙ is.is_plain;
-        is_waiting = ap (λ (x : AVcpu). x.waits) stays.0 ∙ is.is_waiting;
-        is_ended = ap (λ (x : AVcpu). x.end) stays.0 ∙ is.is_ended;
-      },
-      tt,
-    )
+landed_shown : (budget i steps : ℕ) (s : Stepped) (old new : Kept) → IsOver s → length old.words ≡ 512 → Makes (keeping old) (said budget (landed i steps s)) (keeping new) →
+    IsLawfulPhase (stopped i (stop_answered steps s (λ c. next_within budget c))).phase → IsShown i (stop_answered steps s (λ c. next_within budget c)) new
+landed_shown budget i steps (Moved v) old new over full makes lawful = stop_shown i (next_within budget (at_count v (steps + 1))) old new full makes lawful
+landed_shown budget i steps (Asked access v) old new over full makes lawful = absurd over
+landed_shown budget i steps (Stops end v) old new over full makes lawful = tt
 
-landed_at : (budget i steps : ℕ) (s : Stepped) (v1 v2 : AVcpu) (old new : Kept) → v1.number ≡ i → Lands steps s v1 → length old.words ≡ 512 →
-    Proceeds budget v1.end v1 v2 (keeping old) (keeping new) → IsAt i (record { vcpu = v2; page = new }) (stop_answered steps s (λ gone. next_within budget gone))
-landed_at budget i steps (Moved v) v1 v2 old new number lands full proceeds = proceeds_on budget i (at_count v (steps + 1)) v1 v2 old new number lands full proceeds
-landed_at budget i steps (Asked access v) v1 v2 old new number lands full proceeds = absurd lands
-landed_at budget i steps (Stops end v) v1 v2 old new number lands full proceeds = proceeds_not budget i (at_count v (counted end steps)) end v1 v2 old new lands proceeds
+-- once its access is answered it goes on to its stop
+landed_at : (budget i steps : ℕ) (s : Stepped) (v1 v2 : State) (old new : Kept) → IsOver s → v1 ≡ landed i steps s → length old.words ≡ 512 →
+    Makes (keeping old) (said budget v1) (keeping new) → v2 ≡ gone budget v1 → IsLawfulPhase v2.phase →
+    IsAt i (record { vcpu = v2; page = new }) (stop_answered steps s (λ c. next_within budget c))
+landed_at budget i steps s v1 v2 old new over is full makes goes lawful =
+    let there : v2 ≡ stopped i (stop_answered steps s (λ c. next_within budget c)) = goes ∙ ap (λ (x : State). gone budget x) is ∙ landed_gone budget i steps s in
+    record {
+      is_stopped = there;
+      is_shown =
+          landed_shown budget i steps s old new over full (subst (λ (x : State). Makes (keeping old) (said budget x) (keeping new)) is makes)
+          (subst (λ (x : State). IsLawfulPhase x.phase) there lawful);
+    }
 
--- from the answer on
-answered_at : (budget i : ℕ) (v : Counted) (a : Answer) (v1 v2 : AVcpu) (k page2 page3 : Kept) → length k.words ≡ 512 → v1.number ≡ i →
-    Settles v (outcome_of a) k v1 (keeping page2) → Proceeds budget v1.end v1 v2 (keeping page2) (keeping page3) →
-    IsAt i (record { vcpu = v2; page = page3 }) (stop_answered v.steps (answered a v) (λ gone. next_within budget gone))
-answered_at budget i v (Done values) v1 v2 k page2 page3 full number settles proceeds =
-    let same : page2 ≡ k = same_Some _ _ settles.1 in
-    landed_at budget i v.steps (results_of values v.vcpu) v1 v2 page2 page3 number settles.0 (ap (λ (p : Kept). length p.words) same ∙ full) proceeds
+-- what the devices say lands, and is over with it
+answered_left : (image : Contents) (i : ℕ) (c : Counted) (a : Answer) (k : Kept) → found_in (settling image i c (outcome_of a)) k ≡ record { value = landed i c.steps (answered image a c); page = k }
+answered_left image i c (Done values) k = refl
+answered_left image i c (Raise vector code) k = refl
 
-settled_at : (image : Contents) (budget i : ℕ) (e : Event) (v : Counted) (d : Devices) (v1 v2 : AVcpu) (k page2 page3 : Kept) → length k.words ≡ 512 → v1.number ≡ i →
-    Settles v (outcome_of (answer_to d i e)) k v1 (keeping page2) → Proceeds budget v1.end v1 v2 (keeping page2) (keeping page3) →
-    IsAt i (record { vcpu = v2; page = page3 }) (next_stop image budget i e v d)
-settled_at image budget i (One access) v d v1 v2 k page2 page3 full number settles proceeds =
-    answered_at budget i v (answer d i access) v1 v2 k page2 page3 full number settles proceeds
+answered_over : (image : Contents) (a : Answer) (c : Counted) → IsOver (answered image a c)
+answered_over image (Done values) c = results_over c.vcpu values
+answered_over image (Raise vector code) c = raised_over image vector code c.vcpu
 
-served_devices : (i : ℕ) (e : Event) (k : Kept) (d : Devices) → (served_by i (Some e) k d).devices ≡ next_devices i e d
-served_devices i (One access) k d = refl
+-- from the reply to the next stop
+answered_at : (image : Contents) (budget i : ℕ) (e : Event) (c : Counted) (d : Devices) (v0 v1 v2 : State) (page1 page2 page3 : Kept) → length page1.words ≡ 512 →
+    v0 ≡ state i c (phase.Waits e) → outcome_on e page1 ≡ outcome_of (answer_to d i e) → Runs (resuming image v0) v1 (keeping page1) (keeping page2) →
+    Makes (keeping page2) (said budget v1) (keeping page3) → v2 ≡ gone budget v1 → IsLawfulPhase v2.phase → IsAt i (record { vcpu = v2; page = page3 }) (next_stop image budget i e c d)
+answered_at image budget i (One access) c d v0 v1 v2 page1 page2 page3 full is outcome runs makes goes lawful =
+    let a = answer d i access in
+    let left : found_in (resuming image v0) page1 ≡ record { value = landed i c.steps (answered image a c); page = page1 } =
+    ap (λ (x : State). found_in (resuming image x) page1) is
+    ∙ found_listen (accepting (One access)) (λ o. settling image i c o) page1
+    ∙ ap (λ (o : Outcome). found_in (settling image i c o) page1) outcome
+    ∙ answered_left image i c a page1 in
+    let kept = runs_kept (resuming image v0) v1 (keeping page1) (keeping page2) page1 refl runs in
+    let value : v1 ≡ landed i c.steps (answered image a c) = kept.0 ∙ ap (λ (l : Left State). l.value) left in
+    let same : page2 ≡ page1 = same_Some _ _ kept.1 ∙ ap (λ (l : Left State). l.page) left in
+    landed_at budget i c.steps (answered image a c) v1 v2 page2 page3 (answered_over image a c) value (ap (λ (p : Kept). length p.words) same ∙ full) makes goes lawful
+
+devices_then : (i : ℕ) (e : Event) (d : Devices) → after_event d i e ≡ next_devices i e d
+devices_then i (One access) d = refl
 
 told_on : (image : Contents) (budget i : ℕ) (e : Event) (v : Counted) (page : Kept) (h0 h1 : Hosting) (order0 order1 : List Turn) (m : Machine) →
-    call_of i page ≡ Some e → Tells h0 order0 m → h1 ≡ after_serve i page h0 → order1 ≡ order0 ++ turn_of (record { vcpu = i; event = e }) ∷ [] →
+    Agrees i e page m.devices → Tells h0 order0 m → h1 ≡ after_serve i page h0 → order1 ≡ order0 ++ turn_of (record { vcpu = i; event = e }) ∷ [] →
     Tells h1 order1 (single image budget i e v m)
-told_on image budget i e v page h0 h1 order0 order1 m asked tells serves pushed = record {
+told_on image budget i e v page h0 h1 order0 order1 m agrees tells serves pushed = record {
   devices =
       ap (λ (h : Hosting). h.devices) serves
       ∙ ap (λ o. option_map (λ d. (served i page d).devices) o) tells.devices
-      ∙ ap (λ (c : Option Event). Some (served_by i c page m.devices).devices) asked
-      ∙ ap Some (served_devices i e page m.devices);
+      ∙ ap Some agrees.devices
+      ∙ ap Some (devices_then i e m.devices);
   history =
       ap (λ (h : Hosting). h.history) serves
       ∙ ap (λ o. option_map (λ es. es ++ entries i page) o) tells.history
-      ∙ ap (λ (c : Option Event). Some (m.events ++ entries_by i c)) asked;
+      ∙ ap (λ es. Some (m.events ++ es)) agrees.entries;
   turns =
       pushed
       ∙ ap (λ turns. turns ++ turn_of (record { vcpu = i; event = e }) ∷ []) tells.turns
@@ -111,32 +128,32 @@ told_on image budget i e v page h0 h1 order0 order1 m asked tells serves pushed 
 }
 
 -- What one visit makes of its vCPU and of what the host tells, from what each of its calls says.
-pub visited : BothEnds → (budget : ℕ) (v0 v1 v2 : AVcpu) (page0 page1 page2 page3 : Kept) (h0 h1 : Hosting) (order0 order1 : List Turn) (event : Event) →
-    v0.waits ≡ Some event → h1 ≡ after_serve v0.number page0 h0 → Leaves v0.number page0 page1 h0 →
-    order1 ≡ order0 ++ turn_of (record { vcpu = v0.number; event = event }) ∷ [] →
-    IfSome v0.waits (λ e. Settles (plain v0.guest) (outcome_on e page1) page1 v1 (keeping page2)) → v1.number ≡ v0.number →
-    Proceeds budget v1.end v1 v2 (keeping page2) (keeping page3) →
-    (image : Contents) (m : Machine) (stop : Standstill) → IsAt v0.number (record { vcpu = v0; page = page0 }) stop → Tells h0 order0 m →
+pub visited : BothEndsAgree → (image : Contents) (budget : ℕ) (v0 v1 v2 : State) (page0 page1 page2 page3 : Kept) (h0 h1 : Hosting) (order0 order1 : List Turn) →
+    v0.number < 8 → is_waiting v0.phase ≡ true → h1 ≡ after_serve v0.number page0 h0 → Leaves v0.number page0 page1 h0 →
+    order1 ≡ order0 ++ record { vcpu = v0.number; count = pending_in v0.phase } ∷ [] →
+    Runs (resuming image v0) v1 (keeping page1) (keeping page2) →
+    Makes (keeping page2) (said budget v1) (keeping page3) → v2 ≡ gone budget v1 → IsLawfulPhase v2.phase →
+    (m : Machine) (stop : Standstill) → IsAt v0.number (record { vcpu = v0; page = page0 }) stop → Tells h0 order0 m →
     IsAt v0.number (record { vcpu = v2; page = page3 }) (stop_then image budget v0.number stop m.devices) × Tells h1 order1 (visit_where image budget v0.number (Some stop) m)
-visited ends_agree budget v0 v1 v2 page0 page1 page2 page3 h0 h1 order0 order1 event waits serves leaves pushed settles number proceeds image m (Ended end v) at tells =
-    let wrong : None ≡ Some event = sym at.0.is_waiting ∙ waits in cc
-visited ends_agree budget v0 v1 v2 page0 page1 page2 page3 h0 h1 order0 order1 event waits serves leaves pushed settles number proceeds image m (Waits e v) at tells =
+visited ends_agree image budget v0 v1 v2 page0 page1 page2 page3 h0 h1 order0 order1 few waits serves leaves pushed runs makes goes lawful m (Ended end v) at tells =
+    let wrong : false ≡ true = ap (λ (x : State). is_waiting x.phase) (sym at.is_stopped) ∙ waits in cc
+visited ends_agree image budget v0 v1 v2 page0 page1 page2 page3 h0 h1 order0 order1 few waits serves leaves pushed runs makes goes lawful m (Waits e v) at tells =
     let i = v0.number in
-    let same_event : event ≡ e = same_Some _ _ (sym waits ∙ at.0.is_waiting) in
-    let shown = kept_after_all at.1.before (wire i e) in
-    let same : page0 ≡ shown = at.1.shown in
-    let agree = ends_agree i e at.1.before m.devices at.1.byte at.1.full in
-    let asked : call_of i page0 ≡ Some e = ap (λ (p : Kept). call_of i p) same ∙ agree.0 in
+    let shown = kept_after_all at.is_shown.before (wire i e) in
+    let same : page0 ≡ shown = at.is_shown.shown in
+    let agrees : Agrees i e page0 m.devices = subst (λ (p : Kept). Agrees i e p m.devices) (sym same) (ends_agree i e at.is_shown.before m.devices few at.is_shown.lawful at.is_shown.full) in
     let left : page1 ≡ (served i page0 m.devices).page = subst (λ o. IfSome o (λ d. page1 ≡ (served i page0 d).page)) tells.devices leaves in
-    let is : page1 ≡ (served i shown m.devices).page = left ∙ ap (λ (p : Kept). (served i p m.devices).page) same in
-    let full : length page1.words ≡ 512 = ap (λ (p : Kept). length p.words) is ∙ agree.2 in
-    let outcome : outcome_on e page1 ≡ outcome_of (answer_to m.devices i e) = ap (λ (p : Kept). outcome_on e p) is ∙ agree.1 in
-    let one : Settles (plain v0.guest) (outcome_on e page1) page1 v1 (keeping page2) =
-    subst (λ o. IfSome o (λ e. Settles (plain v0.guest) (outcome_on e page1) page1 v1 (keeping page2))) at.0.is_waiting settles in
-    let two : Settles v (outcome_on e page1) page1 v1 (keeping page2) = subst (λ (x : Counted). Settles x (outcome_on e page1) page1 v1 (keeping page2)) at.0.is_plain one in
-    let three : Settles v (outcome_of (answer_to m.devices i e)) page1 v1 (keeping page2) = subst (λ (o : Outcome). Settles v o page1 v1 (keeping page2)) outcome two in (
-      settled_at image budget i e v m.devices v1 v2 page1 page2 page3 full number
-          three proceeds,
-      told_on image budget i e v page0 h0 h1 order0 order1 m asked tells serves
-          (pushed ∙ ap (λ (x : Event). order0 ++ turn_of (record { vcpu = i; event = x }) ∷ []) same_event),
+    let full : length page1.words ≡ 512 = ap (λ (p : Kept). length p.words) left ∙ agrees.full in
+    let outcome : outcome_on e page1 ≡ outcome_of (answer_to m.devices i e) = ap (λ (p : Kept). outcome_on e p) left ∙ agrees.outcome in (
+      answered_at image budget i e v m.devices v0 v1 v2 page1 page2 page3 full at.is_stopped outcome runs makes goes lawful,
+      told_on image budget i e v page0 h0 h1 order0 order1 m agrees tells serves
+          (pushed ∙ ap (λ (x : State). order0 ++ record { vcpu = i; count = pending_in x.phase } ∷ []) at.is_stopped),
     )
+
+-- one that doesn't wait stays
+pub unvisited : (image : Contents) (budget : ℕ) (v : State) (page : Kept) (h : Hosting) (order : List Turn) → is_waiting v.phase ≡ false →
+    (m : Machine) (stop : Standstill) → IsAt v.number (record { vcpu = v; page = page }) stop → Tells h order m →
+    IsAt v.number (record { vcpu = v; page = page }) (stop_then image budget v.number stop m.devices) × Tells h order (visit_where image budget v.number (Some stop) m)
+unvisited image budget v page h order idle m (Ended end c) at tells = (at, tells)
+unvisited image budget v page h order idle m (Waits e c) at tells =
+    let wrong : true ≡ false = ap (λ (x : State). is_waiting x.phase) (sym at.is_stopped) ∙ idle in cc

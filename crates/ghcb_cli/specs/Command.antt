@@ -4,7 +4,7 @@ use Rattle.std.specs.Char.{is_ascii_digit}
 use Rattle.std.specs.List.{list_all}
 use Rattle.std.specs.Str.{bytes_eq}
 use Rattle.ghcb_cli.specs.declared.command.Command.{Command}
-use Rattle.ghcb_cli.specs.declared.command.Command.TheVariants.{Run, ShowPage, ShowMsr, ShowInfo}
+use Rattle.ghcb_cli.specs.declared.command.Command.TheVariants.{Run, Hostile, ShowPage, ShowMsr, ShowInfo}
 use Rattle.page_words.specs.Told.{Kept}
 use Rattle.show_text.specs.Digits.{word_of_digits, page_of_digits}
 use Rattle.show_text.specs.Info.{info_text}
@@ -28,12 +28,25 @@ abbrev pub decimal_of : ℕ → ℕ → List ℕ → Option ℕ
 decimal_of least most text =
     if are_digits text && not (has_leading_zero text) && nat_le least (value_after 0 text) && nat_le (value_after 0 text) most then Some (value_after 0 text) else None
 
--- the step limits of a run
+-- the most steps of a run over the host, and of one against a script
 abbrev pub most_steps : ℕ
 most_steps = 2097152
 
+abbrev pub most_hostile_steps : ℕ
+most_hostile_steps = 65536
+
 abbrev pub run_of : ℕ → Command
 run_of steps = Run steps
+
+abbrev pub hostile_of : ℕ → Command
+hostile_of steps = Hostile steps
+
+-- a run by its name and its steps
+abbrev pub run_by : List ℕ → List ℕ → Option Command
+run_by name steps =
+    if bytes_eq name (codes "run") then option_map run_of (decimal_of 1 most_steps steps)
+    else if bytes_eq name (codes "hostile") then option_map hostile_of (decimal_of 1 most_hostile_steps steps)
+    else None
 
 -- what is read of an MSR word, of an exit info and of a page
 abbrev pub show_msr : ℕ → Command
@@ -52,11 +65,11 @@ show_of kind digits =
     else if bytes_eq kind (codes "info") then option_map show_info (word_of_digits digits)
     else None
 
--- The grammar: `run IMAGE INPUT STEPS` with names that aren't empty and 1 to 2,097,152 steps, and `show page HEX`,
--- `show msr HEX` and `show info HEX` with the digits of a page or of a word.
+-- The grammar: `run IMAGE INPUT STEPS` and `hostile IMAGE SCRIPT STEPS` with names that aren't empty, and 1 to 2,097,152 steps
+-- of the one and 1 to 65,536 of the other; and `show page HEX`, `show msr HEX` and `show info HEX` with the digits of a page or of a word.
 abbrev pub command_of : List (List ℕ) → Option Command
-command_of (name ∷ image ∷ input ∷ steps ∷ []) =
-    if bytes_eq name (codes "run") && not (length image == 0) && not (length input == 0) then option_map run_of (decimal_of 1 most_steps steps) else None
+command_of (name ∷ image ∷ second ∷ steps ∷ []) =
+    if not (length image == 0) && not (length second == 0) then run_by name steps else None
 command_of (name ∷ kind ∷ digits ∷ []) = if bytes_eq name (codes "show") then show_of kind digits else None
 command_of _ = None
 
@@ -70,6 +83,7 @@ reading_by digits (Some ShowPage) = option_map page_text (page_of_digits digits)
 reading_by digits (Some (ShowMsr word)) = Some (msr_text word)
 reading_by digits (Some (ShowInfo word)) = Some (info_text word)
 reading_by digits (Some (Run steps)) = None
+reading_by digits (Some (Hostile steps)) = None
 reading_by digits None = None
 
 -- the reading that the words ask for, if they ask for one

@@ -8,10 +8,11 @@ use Rattle.ghcb_cli.specs.declared.top.Ending.{Ending}
 use Rattle.ghcb_cli.specs.declared.top.Ending.TheVariants as ending
 use Rattle.ghcb_cli.specs.declared.top.Unready.{Unready}
 use Rattle.ghcb_cli.specs.declared.top.Unready.TheVariants as unready
+use Rattle.ghcb_cli.specs.declared.command.Command.TheVariants.{Run, Hostile}
 use Rattle.ghcb_cli.specs.declared.text.Refused.{Refused}
 use Rattle.ghcb_cli.specs.Command.{command_of, reading_of}
 use Rattle.ghcb_cli.specs.Outside.{Shelf, Paper, Rose, Puts, wrote}
-use Rattle.ghcb_cli.specs.Program.{said, says_refused, Runs, RunsFiles, IsToEnd, IsPart, IsOutput}
+use Rattle.ghcb_cli.specs.Program.{said, says_refused, answered_text, Runs, RunsFiles, IsAnswered, RunsScript, IsToEnd, IsPart, IsOutput}
 use Rattle.ghcb_cli.specs.Text.{usage, line_of}
 
 -- what the files, the sink and the host told before and after
@@ -23,10 +24,24 @@ pub record Told : Type 0 where
 abbrev pub told : Shelf → Paper → Hosting → Told
 told files out host = record { files = files; out = out; host = host }
 
+-- the host is called for a run over it alone
+abbrev pub IsUncalled : List (List ℕ) → Told → Told → Type 0
+IsUncalled words old new = ((steps : ℕ) → command_of words ≡ Some (Run steps) → ⊥) → new.host ≡ old.host
+
 -- the run, with its output written
 pub record Finishes (words : List (List ℕ)) (old new : Told) (f : Finished) : Type 0 where
+  pub steps : ℕ
+  pub command : command_of words ≡ Some (Run steps)
   pub ran : IsTelling old.host → IfSome old.files.folder (λ folder. RunsFiles folder words f new.host old.out.written new.out.written)
   pub is_end : IsToEnd old.files.folder words 0
+
+-- the run on a script's words, with its text written
+pub record Answers (words : List (List ℕ)) (old new : Told) (f : Finished) (heard : List ℕ) : Type 0 where
+  pub steps : ℕ
+  pub command : command_of words ≡ Some (Hostile steps)
+  pub ran : IfSome old.files.folder (λ folder. RunsScript folder words f heard old.out.written new.out.written)
+  pub is_end : IsToEnd old.files.folder words 0
+  pub host : new.host ≡ old.host
 
 -- the usage line
 pub record Uses (words : List (List ℕ)) (old new : Told) : Type 0 where
@@ -59,15 +74,17 @@ pub record FailsRead (old new : Told) : Type 0 where
 pub record FailsWrite (words : List (List ℕ)) (old new : Told) : Type 0 where
   pub rose : Rose old.out.faults new.out.faults
   pub part : IsPart old.files.folder words old.host old.out.written new.out.written
+  pub uncalled : IsUncalled words old new
 
 abbrev pub EndsAs : List (List ℕ) → Told → Told → Ending → Type 0
 EndsAs words old new (ending.Done f) = Finishes words old new f
+EndsAs words old new (ending.Answered f heard) = Answers words old new f heard.items
 EndsAs words old new ending.Usage = Uses words old new
 EndsAs words old new ending.Shown = Shows words old new
 EndsAs words old new (ending.Refused r) = Refuses words old new r
 EndsAs words old new ending.ReadFault = FailsRead old new
 EndsAs words old new ending.WriteFault = FailsWrite words old new
-EndsAs words old new ending.OutOfMemory = new.out.written ≡ old.out.written
+EndsAs words old new ending.OutOfMemory = (new.out.written ≡ old.out.written) × IsUncalled words old new
 
 -- how the run of an image over an input ends
 abbrev pub RunEndsAs : Contents → List ℕ → ℕ → Hosting → Hosting → Paper → Paper → Ending → Type 0
@@ -75,6 +92,13 @@ RunEndsAs image input steps before after old new (ending.Done f) = IsTelling bef
 RunEndsAs image input steps before after old new ending.WriteFault = Rose old.faults new.faults × ((text : List ℕ) × Puts old.written text new.written × IsOutput image steps input before text)
 RunEndsAs image input steps before after old new ending.OutOfMemory = new.written ≡ old.written
 RunEndsAs image input steps before after old new _ = ⊥
+
+-- how the run of an image on a script's words ends
+abbrev pub ScriptEndsAs : Contents → List ℕ → ℕ → Paper → Paper → Ending → Type 0
+ScriptEndsAs image script steps old new (ending.Answered f heard) = IsAnswered image steps script f heard.items × (new.written ≡ wrote old.written (answered_text image steps script))
+ScriptEndsAs image script steps old new ending.WriteFault = Rose old.faults new.faults × Puts old.written (answered_text image steps script) new.written
+ScriptEndsAs image script steps old new ending.OutOfMemory = new.written ≡ old.written
+ScriptEndsAs image script steps old new _ = ⊥
 
 -- how a call ends that has nothing to run
 abbrev pub GivesUpAs : Unready → Paper → Paper → Ending → Type 0

@@ -1,8 +1,4 @@
-pub mod Guest
 pub mod Plain
-pub mod Accept
-pub mod BothEnds
-pub mod Seats
 pub mod Standing
 pub mod Ran
 pub mod Outside

@@ -1,30 +1,35 @@
 -- What vCPUs over their pages, a host and an order stand for: a plain machine.
-use Rattle.std.specs.Prelude.{◌≡◌, ℕ, ◌+◌, List, [], ◌∷◌, length, Some, None}
+use Rattle.std.specs.Prelude.{◌≡◌, ℕ, ◌+◌, List, [], ◌∷◌, length, Some}
 use Rattle.page_words.specs.Told.{Kept, kept_after_all}
 use Rattle.image_file.specs.Image.{Contents}
 use Rattle.event_table.specs.declared.event.Event.{Event}
 use Rattle.event_table.specs.declared.turn.Turn.{Turn}
+use Rattle.event_table.specs.Lawful.{IsLawful}
 use Rattle.guest_interp.specs.Stepping.{Standstill, Waits, Ended}
-use Rattle.host_events.specs.Devices.{Devices}
+use Rattle.device_bus.specs.Devices.{Devices}
 use Rattle.host_events.specs.History.{turns_of}
 use Rattle.host_events.specs.Hosting.{Hosting}
-use Rattle.host_events.specs.Wire.{wire}
+use Rattle.vc_handler.specs.Wire.{wire}
+use Rattle.vcpu_core.specs.Running.{stopped}
 use Rattle.ghcb_cli.specs.declared.seat.Seat.{Seat}
-use Rattle.ghcb_cli.specs.Guest.{IsByteEvent}
 use Rattle.ghcb_cli.specs.Plain.{Machine, next_stop}
-use Rattle.ghcb_cli.specs.Seats.{Is}
 
 -- the event is shown on the page, whatever its other words hold
 pub record Shows (i : ℕ) (event : Event) (page : Kept) : Type 0 where
   pub before : Kept
   pub shown : page ≡ kept_after_all before (wire i event)
   pub full : length before.words ≡ 512
-  pub byte : IsByteEvent event
+  pub lawful : IsLawful event
+
+-- at a stop the event is shown
+abbrev pub IsShown : ℕ → Standstill → Kept → Type 0
+IsShown i (Waits event c) page = Shows i event page
+IsShown i (Ended end c) page = Unit {0}
 
 -- the vCPU with its page stops there
-abbrev pub IsAt : ℕ → Seat → Standstill → Type 0
-IsAt i seat (Waits event c) = Is seat.vcpu c (Some event) None × Shows i event seat.page
-IsAt i seat (Ended end c) = Is seat.vcpu c None (Some end) × Unit {0}
+pub record IsAt (i : ℕ) (seat : Seat) (stop : Standstill) : Type 0 where
+  pub is_stopped : seat.vcpu ≡ stopped i stop
+  pub is_shown : IsShown i stop seat.page
 
 -- the host tells the devices and the events of the machine, and the order is theirs
 pub record Tells (h : Hosting) (order : List Turn) (m : Machine) : Type 0 where

@@ -1,14 +1,21 @@
 -- The program's texts.
-use Rattle.std.specs.Prelude.{ℕ, List, ◌++◌, codes, decimal}
+use Rattle.std.specs.Prelude.{ℕ, List, ◌++◌, codes}
+use Rattle.show_text.specs.Number.{labelled, line_end}
 use Rattle.image_file.specs.Fault.{number_of}
 use Rattle.ghcb_cli.specs.declared.text.Refused.{Refused}
-use Rattle.ghcb_cli.specs.declared.text.Refused.TheVariants.{ImageLimit, Image, NotYet, InputLimit}
+use Rattle.ghcb_cli.specs.declared.text.Refused.TheVariants.{ImageLimit, Image, NotYet, InputLimit, ScriptLimit, ScriptLine}
 
 abbrev pub usage : List ℕ
 usage = codes "usage: ghcb_run run|plain|hostile|live|secret|show|make\n"
 
+-- what is refused: a limit, an image by the number of its first broken rule, or a script by the number of its first bad line
+abbrev pub what_of : Refused → List ℕ
+what_of ImageLimit = codes "image limit"
+what_of (Image fault) = labelled (codes "image ") (number_of fault)
+what_of NotYet = codes "not-yet"
+what_of InputLimit = codes "input limit"
+what_of ScriptLimit = codes "script limit"
+what_of (ScriptLine line) = labelled (codes "script line ") line
+
 abbrev pub line_of : Refused → List ℕ
-line_of ImageLimit = codes "refused image limit\n"
-line_of (Image fault) = codes "refused image " ++ decimal (number_of fault) ++ codes "\n"
-line_of NotYet = codes "refused not-yet\n"
-line_of InputLimit = codes "refused input limit\n"
+line_of refused = codes "refused " ++ what_of refused ++ line_end

@@ -12,6 +12,8 @@ use show_text::{Text, info_text, msr_text, page_from_hex, page_text, word_from_h
 pub enum Command {
     /// Runs an image over the host, within so many steps for each vCPU.
     Run { steps: u64 },
+    /// Runs vCPU 0 of an image on the words of a script, within so many steps.
+    Hostile { steps: u64 },
     /// Reads a page.
     ShowPage,
     /// Reads an MSR word.
@@ -20,8 +22,11 @@ pub enum Command {
     ShowInfo(u64),
 }
 
-/// The most steps that a run can be given.
+/// The most steps that a run over the host can be given.
 const MOST_STEPS: u64 = 2_097_152;
+
+/// The most steps that a run on a script can be given.
+const MOST_HOSTILE_STEPS: u64 = 65_536;
 
 fn all_digits(text: &[u8]) -> bool
     ensures { result ≡ list_all is_ascii_digit text.now }
@@ -96,15 +101,30 @@ fn show(kind: &str, digits: &str) -> Option<Command>
     }
 }
 
+// A run by its name and its steps.
+fn run_by(name: &str, steps: &[u8]) -> Option<Command>
+    ensures command { result ≡ Rattle.ghcb_cli.specs.Command.run_by name.now steps.now }
+{
+    match name {
+        "run" => {
+            let steps = decimal(steps, 1, MOST_STEPS)?;
+            Some(Command::Run { steps })
+        }
+        "hostile" => {
+            let steps = decimal(steps, 1, MOST_HOSTILE_STEPS)?;
+            Some(Command::Hostile { steps })
+        }
+        _ => None,
+    }
+}
+
 /// The command that the words of `ghcb_run` ask for; none exactly where they are none of its grammar.
 pub fn parse(words: &[String]) -> Option<Command>
     ensures command { result ≡ command_of (map string_bytes words.now) }
 {
     match words {
-        [name, image, input, steps]
-            if name.as_str() == "run" && !image.is_empty() && !input.is_empty() => {
-            let steps = decimal(steps.as_bytes(), 1, MOST_STEPS)?;
-            Some(Command::Run { steps })
+        [name, image, second, steps] if !image.is_empty() && !second.is_empty() => {
+            run_by(name.as_str(), steps.as_bytes())
         }
         [name, kind, digits] if name.as_str() == "show" => show(kind.as_str(), digits.as_str()),
         _ => None,
@@ -116,7 +136,7 @@ pub fn reading(words: &[String], command: &Command) -> Option<Text>
     ensures text { result ≡ reading_by (word_at (map string_bytes words.now) 2) (Some command.now) }
 {
     match command {
-        Command::Run { .. } => None,
+        Command::Run { .. } | Command::Hostile { .. } => None,
         Command::ShowPage => match page_from_hex(name_at(words, 2).as_bytes()) {
             Some(page) => Some(page_text(&page)),
             None => None,

@@ -2,8 +2,7 @@
 #![tactic(auto)]
 
 mod command;
-mod guest;
-mod handler;
+mod hostile;
 mod law;
 mod read_whole;
 mod rounds;
@@ -13,11 +12,9 @@ mod seat;
 mod tests;
 mod text;
 mod top;
-mod vcpu;
 
 pub use command::{Command, parse};
-pub use handler::Vc;
-pub use law::{both_ends, rounds_run};
+pub use law::rounds_run;
 pub use run_io::disk::{DiskFiles, OutSink};
 pub use run_io::mem_files::MemFiles;
 pub use run_io::mem_sink::MemSink;

@@ -7,8 +7,8 @@ ghost use Rattle.ghcb_cli.specs.declared.read_whole.ReadError.TheVariants as rea
 use crate::run_io::outside::Files;
 use std::alloc::Global;
 
-/// How many bytes are asked for at once.
-const PIECE: usize = 0x10_0000;
+/// How many bytes are asked for at first. Each further piece is as long as all before it.
+const FIRST_PIECE: usize = 0x4000;
 
 /// A file couldn't be read: its read failed, or memory is wanting.
 #[derive(Clone, Copy, Debug, PartialEq, Eq)]
@@ -25,7 +25,7 @@ fn lengthen(buffer: &mut Vec<u8>, most: usize) -> Result<(), ReadError>
     ensures within { IfOk result (λ _. vec_len buffer.new ≤ most) }
     ensures memory { IfErr result (λ e. e ≡ read_error.OutOfMemory) }
 {
-    let more = PIECE.min(most - buffer.len());
+    let more = FIRST_PIECE.max(buffer.len()).min(most - buffer.len());
     match buffer.resize(buffer.len() + more, 0) {
         Ok(()) => Ok(()),
         Err(_) => Err(ReadError::OutOfMemory),

@@ -1,41 +1,59 @@
 // A run in rounds.
-ghost use Rattle.std.specs.Prelude.{◌≡◌, ◌<◌, ◌≤◌, length, map, unwrap_or, is_some, OnOk, IfOk};
+ghost use Rattle.std.specs.Prelude.{◌≡◌, ◌<◌, ◌≤◌, length, map, unwrap_or, is_some, IsSome, OnOk, IfOk};
 ghost use Rattle.std.specs.List.{list_all};
 ghost use Rattle.event_table.specs.declared.end.End.TheVariants.{Spent as spent};
 ghost use Rattle.host_events.specs.Hosting.{IsTelling};
 ghost use Rattle.guest_interp.specs.Stepping.{next_within};
-ghost use Rattle.ghcb_cli.specs.Plain.{Machine, visits, start_of, first_stops};
+ghost use Rattle.vcpu_core.specs.State.{end_in, start_of};
+ghost use Rattle.ghcb_cli.specs.Plain.{Machine, visits, first_stops};
 ghost use Rattle.ghcb_cli.specs.Standing.{IsAt, AreAt, AreNumbered, Stands};
 ghost use Rattle.ghcb_cli.specs.Ran.{RanRounds};
 
-use crate::seat::{Seat, visit};
-use crate::vcpu::Vcpu;
+use crate::seat::{Seat, meet, visit};
 use event_table::{End, Finished, Turn};
 use host_events::Host;
 use image_file::Image;
-use page_words::Words;
 use std::alloc::{AllocError as OutOfMemory, Global};
 
-// A vCPU over a page of zeros, at its first event or its end.
-fn seat_of(alloc: Global, image: &Image, number: u16, budget: u64) -> Result<Seat, OutOfMemory>
+// A vCPU that has met the host, at its first event or its end.
+fn seat_of<H: Host>(
+    alloc: Global,
+    image: &Image,
+    number: u16,
+    budget: u64,
+    host: &mut H,
+) -> Result<Seat, OutOfMemory>
+    requires known { number < (H.told host.old).vcpus }
     ensures number { IfOk result (λ seat. seat.vcpu.number ≡ number) }
-    ensures at { IfOk result (λ seat. IsAt number seat (next_within budget (start_of image.now number))) }
+    ensures at { IsSome (H.told host.old).devices → IfOk result (λ seat. IsAt number seat (next_within budget (start_of image.now number))) }
+    ensures devices { OnOk result ((H.told host.new).devices ≡ (H.told host.old).devices) }
+    ensures history { OnOk result ((H.told host.new).history ≡ (H.told host.old).history) }
+    ensures vcpus { (H.told host.new).vcpus ≡ (H.told host.old).vcpus }
 {
     let ram = image.ram(alloc)?;
-    let mut vcpu = Vcpu::new(image, number, ram);
-    let mut page = Words::new();
-    vcpu.run_to_exit(&mut page, budget);
-    Ok(Seat { vcpu, page })
+    let mut seat = meet(image, number, ram, budget, host)?;
+    seat.vcpu.run_to_exit(image, &mut seat.page, budget);
+    Ok(seat)
 }
 
-// Each vCPU at its first event or its end.
-fn open(alloc: Global, image: &Image, budget: u64) -> Result<Vec<Seat>, OutOfMemory>
-    ensures at { IfOk result (λ seats. AreAt 0 seats.items (first_stops image.now budget 0 image.now.header.vcpus)) }
+// Each vCPU has met the host, in ascending number, and is at its first event or its end.
+fn open<H: Host>(
+    alloc: Global,
+    image: &Image,
+    budget: u64,
+    host: &mut H,
+) -> Result<Vec<Seat>, OutOfMemory>
+    requires hosted { (H.told host.old).vcpus ≡ image.now.header.vcpus }
+    ensures at { IsSome (H.told host.old).devices → IfOk result (λ seats. AreAt 0 seats.items (first_stops image.now budget 0 image.now.header.vcpus)) }
+    ensures numbered { IfOk result (λ seats. AreNumbered 0 seats.items) }
     ensures many { IfOk result (λ seats. length seats.items ≡ image.now.header.vcpus) }
+    ensures devices { OnOk result ((H.told host.new).devices ≡ (H.told host.old).devices) }
+    ensures history { OnOk result ((H.told host.new).history ≡ (H.told host.old).history) }
+    ensures hosted { (H.told host.new).vcpus ≡ image.now.header.vcpus }
 {
     let mut seats = Vec::new(alloc);
     for number in 0..image.vcpus() {
-        seats.push(seat_of(alloc, image, number, budget)?)?;
+        seats.push(seat_of(alloc, image, number, budget, host)?)?;
     }
     Ok(seats)
 }
@@ -58,27 +76,27 @@ fn round<H: Host>(
 {
     for i in 0..image.vcpus() {
         let seat = &mut seats[usize::from(i)];
-        visit(budget, seat, host, order)?;
+        visit(image, budget, i, seat, host, order)?;
     }
     Ok(())
 }
 
 fn have_ended(seats: &[Seat]) -> bool
-    ensures { result ≡ list_all (λ s. is_some s.vcpu.end) seats.now }
+    ensures { result ≡ list_all (λ s. is_some (end_in s.vcpu.phase)) seats.now }
 {
-    seats.iter().all(|s| s.vcpu.end.is_some())
+    seats.iter().all(|s| s.vcpu.end().is_some())
 }
 
 // What is handed back of the vCPUs.
 fn finish(alloc: Global, seats: &[Seat], order: Vec<Turn>) -> Result<Finished, OutOfMemory>
     ensures order { IfOk result (λ f. f.order.items ≡ order.items) }
-    ensures steps { IfOk result (λ f. f.steps.items ≡ map (λ s. s.vcpu.guest.steps) seats.now) }
-    ensures ends { IfOk result (λ f. f.ends.items ≡ map (λ s. unwrap_or s.vcpu.end spent) seats.now) }
+    ensures steps { IfOk result (λ f. f.steps.items ≡ map (λ s. s.vcpu.cpu.steps) seats.now) }
+    ensures ends { IfOk result (λ f. f.ends.items ≡ map (λ s. unwrap_or (end_in s.vcpu.phase) spent) seats.now) }
 {
-    let steps = seats.iter().map(|s| s.vcpu.guest.steps).collect(alloc)?;
+    let steps = seats.iter().map(|s| s.vcpu.steps()).collect(alloc)?;
     let ends = seats
         .iter()
-        .map(|s| s.vcpu.end.unwrap_or(End::Spent))
+        .map(|s| s.vcpu.end().unwrap_or(End::Spent))
         .collect(alloc)?;
     Ok(Finished { order, steps, ends })
 }
@@ -95,7 +113,7 @@ pub fn run_rounds<H: Host>(
     ensures ran { IsTelling (H.told host.old) → IfOk result (λ f. RanRounds image.now budget input.items f (H.told host.new)) }
 {
     host.start(image.vcpus(), input)?;
-    let mut seats = open(alloc, image, budget)?;
+    let mut seats = open(alloc, image, budget, host)?;
     let mut order = Vec::new(alloc);
     for done in 0..budget {
         if have_ended(&seats) {

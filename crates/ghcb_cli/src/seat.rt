@@ -1,16 +1,19 @@
 // A vCPU with its page.
-ghost use Rattle.std.specs.Prelude.{◌≡◌, ◌<◌, OnOk};
-ghost use Rattle.image_file.specs.Image.{Contents};
+ghost use Rattle.std.specs.Prelude.{◌≡◌, ◌<◌, length, IfOk, IsSome, OnOk};
+ghost use Rattle.image_file.specs.Image.{opening_ram};
 ghost use Rattle.guest_interp.specs.Stepping.{Standstill};
+ghost use Rattle.vcpu_core.specs.declared.phase.Phase.TheVariants as phases;
+ghost use Rattle.vcpu_core.specs.State.{start_of, state};
 ghost use Rattle.ghcb_cli.specs.Plain.{Machine, visit_where};
 ghost use Rattle.ghcb_cli.specs.Standing.{IsAt, Tells, stop_then};
 
-use crate::law::both_ends;
-use crate::vcpu::Vcpu;
+use both_ends::agree;
 use event_table::Turn;
 use host_events::Host;
+use image_file::{Image, Ram};
 use page_words::Words;
 use std::alloc::AllocError as OutOfMemory;
+use vcpu_core::Vcpu;
 
 /// A vCPU with the page that it shares with the host.
 #[derive(Drop)]
@@ -19,30 +22,60 @@ pub struct Seat {
     pub page: Words,
 }
 
+/// A vCPU over a page of zeros, once it has asked the host for its versions: it goes on at version 1, and
+/// has ended where the host doesn't offer that.
+pub fn meet<H: Host>(
+    image: &Image,
+    number: u16,
+    ram: Ram,
+    budget: u64,
+    host: &mut H,
+) -> Result<Seat, OutOfMemory>
+    requires opening { ram ≡ opening_ram image.now }
+    requires known { number < (H.told host.old).vcpus }
+    ensures number { IfOk result (λ seat. seat.vcpu.number ≡ number) }
+    // A host that tells its devices offers it.
+    ensures met { IsSome (H.told host.old).devices → IfOk result (λ seat. (seat.vcpu ≡ state number (start_of image.now number) phases.Going) × (length seat.page.words ≡ 512)) }
+    ensures devices { OnOk result ((H.told host.new).devices ≡ (H.told host.old).devices) }
+    ensures history { OnOk result ((H.told host.new).history ≡ (H.told host.old).history) }
+    ensures vcpus { (H.told host.new).vcpus ≡ (H.told host.old).vcpus }
+{
+    let mut vcpu = Vcpu::new(image, number, ram);
+    let mut page = Words::new();
+    vcpu.run_to_exit(image, &mut page, budget);
+    host.serve(number, &mut page)?;
+    vcpu.resume(image, &mut page);
+    Ok(Seat { vcpu, page })
+}
+
 /// Gives a vCPU one item if it waits: its page is served, the reply is taken, and it goes on to its
 /// next stop.
 pub fn visit<H: Host>(
+    image: &Image,
     budget: u64,
+    number: u16,
     seat: &mut Seat,
     host: &mut H,
     order: &mut Vec<Turn>,
 ) -> Result<(), OutOfMemory>
+    requires numbered { number ≡ seat.old.vcpu.number }
     requires known { seat.old.vcpu.number < (H.told host.old).vcpus }
-    ensures ok { (image : Contents) (m : Machine) (stop : Standstill) → IsAt seat.old.vcpu.number seat.old stop → Tells (H.told host.old) order.old.items m
-        → OnOk result (IsAt seat.old.vcpu.number seat.new (stop_then image budget seat.old.vcpu.number stop m.devices)
-        × Tells (H.told host.new) order.new.items (visit_where image budget seat.old.vcpu.number (Some stop) m)) }
+    requires few { seat.old.vcpu.number < 8 }
+    ensures ok { (m : Machine) (stop : Standstill) → IsAt seat.old.vcpu.number seat.old stop → Tells (H.told host.old) order.old.items m
+        → OnOk result (IsAt seat.old.vcpu.number seat.new (stop_then image.now budget seat.old.vcpu.number stop m.devices)
+        × Tells (H.told host.new) order.new.items (visit_where image.now budget seat.old.vcpu.number (Some stop) m)) }
     ensures number { seat.new.vcpu.number ≡ seat.old.vcpu.number }
     ensures vcpus { (H.told host.new).vcpus ≡ (H.told host.old).vcpus }
 {
-    if let Some(event) = seat.vcpu.waits {
-        both_ends();
-        host.serve(seat.vcpu.number, &mut seat.page)?;
+    if seat.vcpu.waiting() {
+        agree();
+        host.serve(number, &mut seat.page)?;
         order.push(Turn {
-            vcpu: seat.vcpu.number,
-            count: event.count(),
+            vcpu: number,
+            count: seat.vcpu.pending(),
         })?;
-        seat.vcpu.resume(&mut seat.page);
-        seat.vcpu.proceed(&mut seat.page, budget);
+        seat.vcpu.resume(image, &mut seat.page);
+        seat.vcpu.run_to_exit(image, &mut seat.page, budget);
     }
     Ok(())
 }

@@ -1,11 +1,13 @@
-// The whole way of a run, from two files to the console, over files, a sink and a hypervisor in memory,
-// and the words of one event.
-use crate::{MemFiles, MemSink, Refused, Vc, ghcb_main};
-use event_table::{Access, End, Event, Turn};
+// The whole way of a run, from two files to the console, over files, a sink and a hypervisor in memory.
+ghost use Rattle.std.specs.Prelude.{None};
+ghost use Rattle.host_events.specs.Hypervised.{telling};
+
+use crate::{MemFiles, MemSink, Refused, ghcb_main};
+use event_table::{End, Reason, Turn};
 use host_events::{Host, Hypervisor};
 use image_file::ImageFault;
-use page_words::{Word, Words};
-use std::alloc::Global;
+use page_words::{Page, Word, Words};
+use std::alloc::{AllocError as OutOfMemory, Global};
 use std::test::Fail;
 use std::thread::Threads;
 
@@ -79,7 +81,7 @@ fn says<R: Threads + Sync>(
 #[test]
 fn words_outside_the_grammar_get_the_usage_line(rt: HostRuntime) -> Result<(), Fail> {
     let alloc = rt.alloc();
-    let wrong: [&[&str]; 9] = [
+    let wrong: [&[&str]; 12] = [
         &["run", "a", "b", "0"],
         &["run", "a", "b", "2097153"],
         &["run", "a", "b", "01"],
@@ -88,6 +90,9 @@ fn words_outside_the_grammar_get_the_usage_line(rt: HostRuntime) -> Result<(), F
         &["run", "", "b", "1"],
         &["run", "a", "b"],
         &["plain", "a", "b", "1"],
+        &["hostile", "a", "b", "65537"],
+        &["hostile", "a", "", "1"],
+        &["hostile", "a", "b"],
         &[],
     ];
     for words in wrong {
@@ -231,8 +236,8 @@ fn guests_run_to_their_ends(rt: HostRuntime) -> Result<(), Fail> {
         (&[0xB8, 1], b"", 0, End::BadAddress(2)),
         // JMP to itself
         (&[0xEB, 0xFE], b"", 100, End::Spent),
-        // NOP; IN AL, DX, which isn't shown to a host yet
-        (&[0x90, 0xEC], b"", 1, End::Undecoded),
+        // NOP; INSB, which isn't shown to a host yet
+        (&[0x90, 0x6C], b"", 1, End::Undecoded),
     ];
     for (code, output, steps, end) in rows {
         let words = words_of(alloc, &["run", "image", "input", "100"])?;
@@ -247,6 +252,415 @@ fn guests_run_to_their_ends(rt: HostRuntime) -> Result<(), Fail> {
         let turns = [Turn { vcpu: 0, count: 1 }];
         assert_eq!(rt; done.order.as_slice(), &turns[..output.len().min(1)]);
     }
+    Ok(())
+}
+
+/// A guest, the byte at offset 32 of its image, and what its run with the input "hi" is to leave: the
+/// output, the accesses, the steps and the end.
+type Asking<'a> = (&'a [u8], u8, &'a [u8], u64, u64, End);
+
+const ASKING: [Asking; 7] = [
+    // An echo, at 0: MOV EDX, 3FDh; IN AL, DX; TEST AL, 1; JE to the HLT; MOV EDX, 3F8h; IN AL, DX;
+    // OUT DX, AL; JMP 0; HLT
+    (
+        &[
+            0xBA, 0xFD, 3, 0, 0, 0xEC, 0xA8, 1, 0x74, 9, 0xBA, 0xF8, 3, 0, 0, 0xEC, 0xEE, 0xEB,
+            0xED, 0xF4,
+        ],
+        0,
+        b"hi",
+        7,
+        21,
+        End::Halted,
+    ),
+    // XOR EAX, EAX; XOR ECX, ECX; CPUID; MOV EAX, EBX; MOV EDX, 3F8h; OUT DX, AL; HLT
+    (
+        &[
+            0x31, 0xC0, 0x31, 0xC9, 0x0F, 0xA2, 0x89, 0xD8, 0xBA, 0xF8, 3, 0, 0, 0xEE, 0xF4,
+        ],
+        0,
+        b"A",
+        2,
+        7,
+        End::Halted,
+    ),
+    // XOR EAX, EAX; VMMCALL; ADD EAX, 30h; MOV EDX, 3F8h; OUT DX, AL; HLT
+    (
+        &[
+            0x31, 0xC0, 0x0F, 0x01, 0xD9, 0x83, 0xC0, 0x30, 0xBA, 0xF8, 3, 0, 0, 0xEE, 0xF4,
+        ],
+        0,
+        b"1",
+        2,
+        6,
+        End::Halted,
+    ),
+    // MOV ECX, C0000080h; RDMSR; at 7 MOV AL, 47h; MOV EDX, 3F8h; OUT DX, AL; HLT: without a handler, ..
+    (
+        &[
+            0xB9, 0x80, 0, 0, 0xC0, 0x0F, 0x32, 0xB0, 0x47, 0xBA, 0xF8, 3, 0, 0, 0xEE, 0xF4,
+        ],
+        0,
+        b"",
+        1,
+        1,
+        End::Fault(13),
+    ),
+    // .. and with one at 7
+    (
+        &[
+            0xB9, 0x80, 0, 0, 0xC0, 0x0F, 0x32, 0xB0, 0x47, 0xBA, 0xF8, 3, 0, 0, 0xEE, 0xF4,
+        ],
+        7,
+        b"G",
+        2,
+        6,
+        End::Halted,
+    ),
+    // MOV ECX, 99h; RDMSR; at 7 HLT; the handler at 8 drops the code, steps over RDMSR and returns:
+    // ADD RSP, 8; ADD QWORD PTR [RSP], 2; IRETQ
+    (
+        &[
+            0xB9, 0x99, 0, 0, 0, 0x0F, 0x32, 0xF4, 0x48, 0x83, 0xC4, 8, 0x48, 0x83, 4, 0x24, 2,
+            0x48, 0xCF,
+        ],
+        8,
+        b"",
+        1,
+        6,
+        End::Halted,
+    ),
+    // XOR ESP, ESP; RDMSR: the frame of its handler isn't in RAM
+    (
+        &[0x31, 0xE4, 0x0F, 0x32, 0xF4],
+        4,
+        b"",
+        1,
+        1,
+        End::BadAddress(0xFFFF_FFFF_FFFF_FFD0),
+    ),
+];
+
+#[test]
+fn guests_are_answered_by_the_devices(rt: HostRuntime) -> Result<(), Fail> {
+    let alloc = rt.alloc();
+    for (code, handler, output, accesses, steps, end) in ASKING {
+        let mut image = image_file(alloc, code)?;
+        if let Some(slot) = image.get_mut(32) {
+            *slot = handler;
+        }
+        let mut files = MemFiles::new(alloc);
+        files.add("image", &image)?;
+        files.add("input", b"hi")?;
+        let words = words_of(alloc, &["run", "image", "input", "100"])?;
+        let mut out = MemSink::new(alloc, 2)?;
+        let mut host = Hypervisor::new(alloc);
+        let done = ghcb_main(&rt, alloc, &words, &mut files, &mut out, &mut host);
+        assert_eq!(rt; done.status, 0);
+        assert_eq!(rt; out.written(), output);
+        assert_eq!(rt; done.order.len() as u64, accesses);
+        assert_eq!(rt; host.turns(), accesses);
+        assert_eq!(rt; done.steps.as_slice(), [steps].as_slice());
+        assert_eq!(rt; done.ends.as_slice(), [end].as_slice());
+    }
+    Ok(())
+}
+
+/// A hypervisor that keeps each page as it was handed in, and as it was left.
+#[derive(Drop)]
+struct Watching {
+    host: Hypervisor,
+    shown: Vec<Words>,
+    left: Vec<Words>,
+}
+
+fn copy_of(page: &Words) -> Words {
+    let mut copy = Words::new();
+    for number in 0..512 {
+        if let Some(word) = Word::new(number) {
+            copy.store(word, page.word(word));
+        }
+    }
+    copy.set_msr(page.msr_word());
+    copy
+}
+
+impl Host for Watching {
+    ghost told = { λ w. telling w.host };
+
+    fn start(&mut self, count: u16, input: Vec<u8>) -> Result<(), OutOfMemory> {
+        self.host.start(count, input)
+    }
+
+    fn serve(&mut self, vcpu: u16, page: &mut Words) -> Result<(), OutOfMemory> {
+        self.shown.reserve(1)?;
+        self.left.reserve(1)?;
+        let shown = copy_of(page);
+        self.host.serve(vcpu, page)?;
+        let _ = self.shown.push(shown);
+        let _ = self.left.push(copy_of(page));
+        Ok(())
+    }
+
+    fn console(&self) -> &[u8] {
+        self.host.console()
+    }
+
+    fn turns(&self) -> u64 {
+        self.host.turns()
+    }
+
+    fn turn_at(&self, index: u64) -> Option<Turn> {
+        self.host.turn_at(index)
+    }
+}
+
+/// Words of a page by their numbers.
+type WordsAt<'a> = &'a [(u16, u64)];
+
+fn has_words(page: Option<&Words>, words: WordsAt) -> bool {
+    let Some(page) = page else {
+        return words.is_empty();
+    };
+    words.iter().all(|(number, value)| match Word::new(*number) {
+        Some(word) => page.word(word) == *value,
+        None => false,
+    })
+}
+
+/// A guest, its steps, and the words that its first two events show and that are left of them.
+type Talk<'a> = (&'a [u8], u64, [(WordsAt<'a>, WordsAt<'a>); 2]);
+
+const TALKS: [Talk; 3] = [
+    (
+        &HELLO,
+        4,
+        [
+            (
+                &[
+                    (63, 0x48),
+                    (114, 0x7B),
+                    (115, 0x03F8_0210),
+                    (116, 0),
+                    (126, 0x8000_0000_0000_0000),
+                    (127, 0x001C_0000_0000_0000),
+                    (511, 0x1_0000),
+                ],
+                &[
+                    (63, 0x48),
+                    (115, 0),
+                    (116, 0),
+                    (126, 0),
+                    (127, 0x0018_0000_0000_0000),
+                ],
+            ),
+            (&[], &[]),
+        ],
+    ),
+    // MOV EAX, 0Dh; CPUID; MOV EAX, 1; CPUID; HLT
+    (
+        &[
+            0xB8, 0xD, 0, 0, 0, 0x0F, 0xA2, 0xB8, 1, 0, 0, 0, 0x0F, 0xA2, 0xF4,
+        ],
+        5,
+        [
+            (
+                &[
+                    (63, 0xD),
+                    (97, 0),
+                    (125, 1),
+                    (126, 0x8000_0000_0000_0000),
+                    (127, 0x201C_0002_0000_0000),
+                ],
+                &[(63, 1), (97, 0x240), (98, 0), (99, 0x240)],
+            ),
+            (
+                &[
+                    (63, 1),
+                    (97, 0x240),
+                    (126, 0x8000_0000_0000_0000),
+                    (127, 0x001C_0002_0000_0000),
+                ],
+                &[(63, 0), (97, 0), (98, 0x10), (99, 0)],
+            ),
+        ],
+    ),
+    // RDTSC; RDTSC; HLT
+    (
+        &[0x0F, 0x31, 0x0F, 0x31, 0xF4],
+        3,
+        [(&[], &[(63, 0), (98, 0)]), (&[], &[(63, 0x3E8), (98, 0)])],
+    ),
+];
+
+#[test]
+fn the_page_between_guest_and_host_has_these_words(rt: HostRuntime) -> Result<(), Fail> {
+    let alloc = rt.alloc();
+    for (code, steps, events) in TALKS {
+        let words = words_of(alloc, &["run", "image", "input", "100"])?;
+        let mut files = folder(alloc, code)?;
+        let mut out = MemSink::new(alloc, 1)?;
+        let mut host = Watching {
+            host: Hypervisor::new(alloc),
+            shown: Vec::new(alloc),
+            left: Vec::new(alloc),
+        };
+        let done = ghcb_main(&rt, alloc, &words, &mut files, &mut out, &mut host);
+        assert_eq!(rt; done.steps.as_slice(), [steps].as_slice());
+        assert_eq!(rt; done.ends.as_slice(), [End::Halted].as_slice());
+        // The first page is that of the exchange of versions.
+        for i in 0..2 {
+            let (shown, left) = events[i];
+            assert!(rt; has_words(host.shown.get(i + 1), shown));
+            assert!(rt; has_words(host.left.get(i + 1), left));
+        }
+    }
+    Ok(())
+}
+
+/// A host whose answer to any exit is one MSR word.
+#[derive(Drop)]
+struct Mute {
+    vcpus: u16,
+    answer: u64,
+}
+
+impl Host for Mute {
+    ghost told = { λ h. record { vcpus = h.vcpus; devices = None; history = None; pages = None } };
+
+    fn start(&mut self, count: u16, _input: Vec<u8>) -> Result<(), OutOfMemory> {
+        self.vcpus = count;
+        Ok(())
+    }
+
+    fn serve(&mut self, _vcpu: u16, page: &mut Words) -> Result<(), OutOfMemory> {
+        page.set_msr(self.answer);
+        Ok(())
+    }
+
+    fn console(&self) -> &[u8] {
+        b""
+    }
+
+    fn turns(&self) -> u64 {
+        0
+    }
+
+    fn turn_at(&self, _index: u64) -> Option<Turn> {
+        None
+    }
+}
+
+#[test]
+fn no_guest_runs_over_a_host_without_version_1(rt: HostRuntime) -> Result<(), Fail> {
+    let alloc = rt.alloc();
+    for answer in [0x0002_0002_0000_0001, 0x0001_0001_0000_0002, 2] {
+        let words = words_of(alloc, &["run", "image", "input", "100"])?;
+        let mut files = folder(alloc, &HELLO)?;
+        let mut out = MemSink::new(alloc, 1)?;
+        let mut host = Mute { vcpus: 0, answer };
+        let done = ghcb_main(&rt, alloc, &words, &mut files, &mut out, &mut host);
+        assert_eq!(rt; done.status, 0);
+        assert_eq!(rt; done.order.len(), 0);
+        assert_eq!(rt; done.steps.as_slice(), [0].as_slice());
+        assert_eq!(rt;
+            done.ends.as_slice(),
+            [End::Terminated(Reason::NoProtocol(answer))].as_slice()
+        );
+    }
+    Ok(())
+}
+
+/// A script, and what a run of the guest that prints `H` on its words says and writes.
+type Scripted = (&'static str, u8, Option<Refused>, &'static str);
+
+const SCRIPTED: [Scripted; 5] = [
+    (
+        "",
+        0,
+        None,
+        "exit 0000000000000002
+msr 0000000000000000
+exit 0000000000010100
+end terminated no-protocol 0000000000000000 steps 0
+",
+    ),
+    (
+        "0001000133000001\n",
+        0,
+        None,
+        "exit 0000000000000002
+msr 0001000133000001
+store 126 0000000000000000
+store 127 0000000000000000
+store 063 0000000000000048
+store 114 000000000000007b
+store 115 0000000003f80210
+store 116 0000000000000000
+store 126 8000000000000000
+store 127 001c000000000000
+store 511 0000000000010000
+exit 0000000080000000
+load 115 0000000000000000
+end halted steps 4
+",
+    ),
+    (
+        "0001000133000001",
+        3,
+        Some(Refused::ScriptLine(1)),
+        "refused script line 1\n",
+    ),
+    (
+        "0001000133000001\n0000000000000000\n000000000000000g\n",
+        3,
+        Some(Refused::ScriptLine(3)),
+        "refused script line 3\n",
+    ),
+    (
+        "00010001330000011\n",
+        3,
+        Some(Refused::ScriptLine(1)),
+        "refused script line 1\n",
+    ),
+];
+
+#[test]
+fn a_guest_runs_on_the_words_of_a_script(rt: HostRuntime) -> Result<(), Fail> {
+    let alloc = rt.alloc();
+    for (script, status, refused, text) in SCRIPTED {
+        let mut files = folder(alloc, &HELLO)?;
+        files.add("script", script.as_bytes())?;
+        let mut out = MemSink::new(alloc, 1000)?;
+        let words = ["hostile", "image", "script", "100"];
+        let said = says(&rt, alloc, &words, &mut files, &mut out)?;
+        assert_eq!(rt; said, (status, refused));
+        assert_eq!(rt; out.written(), text.as_bytes());
+    }
+    Ok(())
+}
+
+#[test]
+fn the_words_that_a_script_gave_are_handed_back(rt: HostRuntime) -> Result<(), Fail> {
+    let alloc = rt.alloc();
+    let mut files = folder(alloc, &HELLO)?;
+    files.add(
+        "script",
+        b"0001000133000001\n0000000000000001\n0000000080000B0d\n",
+    )?;
+    let words = words_of(alloc, &["hostile", "image", "script", "100"])?;
+    let mut out = MemSink::new(alloc, 1000)?;
+    let mut host = Hypervisor::new(alloc);
+    let done = ghcb_main(&rt, alloc, &words, &mut files, &mut out, &mut host);
+    assert_eq!(rt; done.status, 0);
+    assert_eq!(rt;
+        done.told.as_slice(),
+        [0x0001_0001_3300_0001, 1, 0x8000_0B0D].as_slice()
+    );
+    assert_eq!(rt; done.steps.as_slice(), [2].as_slice());
+    assert_eq!(rt; done.ends.as_slice(), [End::Fault(13)].as_slice());
+    assert!(rt; done.order.is_empty());
+    assert_eq!(rt; host.turns(), 0);
     Ok(())
 }
 
@@ -344,32 +758,4 @@ fn readings_are_shown(rt: HostRuntime) -> Result<(), Fail> {
         assert_eq!(rt; says(&rt, alloc, &words, &mut files, &mut out)?, (2, None));
     }
     Ok(())
-}
-
-#[test]
-fn a_byte_put_out_is_shown_by_these_words_alone(rt: HostRuntime) {
-    let mut page = Words::new();
-    let event = Event::One(Access::Out {
-        port: 0x3F8,
-        size: 1,
-        value: 0x48,
-    });
-    Vc::new(0).show(&event, &mut page);
-    for number in 0..512 {
-        let want = match number {
-            63 => 0x48, // RAX
-            114 => 0x7B, // the exit code of port I/O
-            115 => 0x03F8_0210, // the access: port, address and size
-            126 => 0x8000_0000_0000_0000, // the valid bits of words 0 to 63: RAX
-            127 => 0x001C_0000_0000_0000, // those of words 64 to 127: the exit code and both infos
-            511 => 0x1_0000, // version 1, usage 0
-            _ => 0,
-        };
-        assert_eq!(rt;
-            page.word(Word::new(number).unwrap()),
-            want,
-            "word {number}"
-        );
-    }
-    assert_eq!(rt; page.msr_word(), 0x8000_0000);
 }

@@ -1,9 +1,9 @@
 // The program's texts.
 ghost use Rattle.std.specs.Prelude.{◌≡◌};
-ghost use Rattle.ghcb_cli.specs.declared.text.Refused.TheVariants as refused;
 ghost use Rattle.ghcb_cli.specs.Text.{usage as usage_text, line_of};
 
 use image_file::ImageFault;
+use show_text::Text;
 
 /// The first limit or rule that the files break.
 #[derive(Clone, Copy, Debug, PartialEq, Eq)]
@@ -16,6 +16,10 @@ pub enum Refused {
     NotYet,
     /// The input has more than 16,777,216 bytes.
     InputLimit,
+    /// The script has more than 16,777,216 bytes.
+    ScriptLimit,
+    /// This is the number of the script's first line, from 1, that isn't sixteen hexadecimal digits and a line feed.
+    ScriptLine(u64),
 }
 
 /// The usage line.
@@ -25,35 +29,22 @@ pub fn usage() -> &'static [u8]
     b"usage: ghcb_run run|plain|hostile|live|secret|show|make\n"
 }
 
-// The line of a rule that an image breaks.
-fn image_line(fault: ImageFault) -> &'static [u8]
-    ensures text { result.now ≡ line_of (refused.Image fault) }
-{
-    match fault {
-        ImageFault::Truncated => b"refused image 1\n",
-        ImageFault::BadMagic => b"refused image 2\n",
-        ImageFault::BadCount => b"refused image 3\n",
-        ImageFault::BadRam => b"refused image 4\n",
-        ImageFault::BadCode => b"refused image 5\n",
-        ImageFault::BadData => b"refused image 6\n",
-        ImageFault::BadEntry => b"refused image 7\n",
-        ImageFault::BadVectors => b"refused image 8\n",
-        ImageFault::BadSecret => b"refused image 9\n",
-        ImageFault::ReservedNotZero => b"refused image 10\n",
-        ImageFault::TooLong => b"refused image 11\n",
-    }
-}
-
 impl Refused {
     /// The line that tells of the refusal.
-    pub fn line(&self) -> &'static [u8]
-        ensures text { result.now ≡ line_of self.now }
+    pub fn line(&self) -> Text
+        ensures text { result ≡ line_of self.now }
     {
+        let mut text = Text::new();
+        text.push_str("refused ");
         match self {
-            Refused::ImageLimit => b"refused image limit\n",
-            Refused::Image(fault) => image_line(*fault),
-            Refused::NotYet => b"refused not-yet\n",
-            Refused::InputLimit => b"refused input limit\n",
+            Refused::ImageLimit => text.push_str("image limit"),
+            Refused::Image(fault) => text.push_number("image ", u64::from(fault.number())),
+            Refused::NotYet => text.push_str("not-yet"),
+            Refused::InputLimit => text.push_str("input limit"),
+            Refused::ScriptLimit => text.push_str("script limit"),
+            Refused::ScriptLine(line) => text.push_number("script line ", *line),
         }
+        text.push_str("\n");
+        text
     }
 }

@@ -4,14 +4,15 @@ ghost use Rattle.std.specs.String.{string_bytes};
 ghost use Rattle.host_events.specs.Hosting.{IsTelling};
 ghost use Rattle.ghcb_cli.specs.Command.{command_of, reading_of};
 ghost use Rattle.ghcb_cli.specs.Outside.{Rose, Puts, wrote};
-ghost use Rattle.ghcb_cli.specs.Program.{image_in, input_in, IsRefusal, Said, said, RunsFiles, IsToEnd};
-ghost use Rattle.ghcb_cli.specs.Ending.{EndsAs, RunEndsAs, GivesUpAs, ShowsAs, Uses, Refuses, FailsRead, FailsWrite, IsStatus, IsWithoutRun, finished_of, told};
-ghost use Rattle.ghcb_cli.specs.declared.command.Command.TheVariants.{Run};
+ghost use Rattle.ghcb_cli.specs.Program.{image_in, single_in, input_in, script_in, IsRefusal, Said, said, RunsFiles, RunsScript, IsToEnd};
+ghost use Rattle.ghcb_cli.specs.Ending.{EndsAs, RunEndsAs, ScriptEndsAs, GivesUpAs, ShowsAs, Uses, Refuses, FailsRead, FailsWrite, IsStatus, IsWithoutRun, finished_of, told};
+ghost use Rattle.ghcb_cli.specs.declared.command.Command.TheVariants.{Run, Hostile};
 ghost use Rattle.ghcb_cli.specs.Text.{line_of, usage as usage_text};
 ghost use Rattle.ghcb_cli.specs.declared.top.Ending.TheVariants as ending;
 ghost use Rattle.ghcb_cli.specs.Unready.{unready_of, Blames};
 
 use crate::command::{Command, name_at, parse, reading};
+use crate::hostile::{Answered, answer};
 use crate::read_whole::{ReadError, read_whole};
 use crate::rounds::run_rounds;
 use crate::run_io::outside::{Files, Sink};
@@ -19,6 +20,7 @@ use crate::text::{Refused, usage};
 use event_table::{End, Finished, Turn};
 use host_events::Host;
 use image_file::{Image, ImageError};
+use script_file::{ScriptError, read_script};
 use show_text::Text;
 use std::alloc::Global;
 use std::thread::Threads;
@@ -28,6 +30,9 @@ const MOST_IMAGE: usize = 16_777_280;
 
 /// The most bytes of an input.
 const MOST_INPUT: usize = 16_777_216;
+
+/// The most bytes of a script.
+const MOST_SCRIPT: usize = 16_777_216;
 
 /// Why there is nothing to run.
 #[derive(Clone, Copy, Debug, PartialEq, Eq)]
@@ -62,11 +67,26 @@ fn image_of<F: Files>(alloc: Global, files: &mut F, name: &str) -> Result<Image,
         return Err(Unready::Refused(Refused::ImageLimit));
     }
     match Image::read(alloc, &bytes) {
-        Ok(image) if image.vcpus() > 1 => Err(Unready::Refused(Refused::NotYet)),
         Ok(image) => Ok(image),
         Err(ImageError::Fault(fault)) => Err(Unready::Refused(Refused::Image(fault))),
         Err(ImageError::OutOfMemory) => Err(Unready::OutOfMemory),
     }
+}
+
+// The image of one vCPU in a file, or why there is none.
+fn single_of<F: Files>(alloc: Global, files: &mut F, name: &str) -> Result<Image, Unready>
+    ensures image { IfOk result (λ image. IfSome (F.told files.old).folder (λ folder. option_map single_in (folder name.now) ≡ Some (Ok image))) }
+    ensures one { IfOk result (λ image. image.header.vcpus ≡ 1) }
+    ensures refused { IfErr result (λ e. Blames e
+        (λ r. IfSome (F.told files.old).folder (λ folder. option_map single_in (folder name.now) ≡ Some (Err r))) (Rose (F.told files.old).faults (F.told files.new).faults)) }
+    ensures folder { (F.told files.new).folder ≡ (F.told files.old).folder }
+    ensures later { (F.told files.old).faults ≤ (F.told files.new).faults }
+{
+    let image = image_of(alloc, files, name)?;
+    if image.vcpus() > 1 {
+        return Err(Unready::Refused(Refused::NotYet));
+    }
+    Ok(image)
 }
 
 // The input in a file, or why there is none.
@@ -85,10 +105,31 @@ fn input_of<F: Files>(alloc: Global, files: &mut F, name: &str) -> Result<Vec<u8
     Ok(bytes)
 }
 
+// The words of the script in a file, or why there are none.
+fn script_in_file<F: Files>(alloc: Global, files: &mut F, name: &str) -> Result<Vec<u64>, Unready>
+    ensures script { IfOk result (λ script. IfSome (F.told files.old).folder (λ folder. option_map script_in (folder name.now) ≡ Some (Ok script.items))) }
+    ensures refused { IfErr result (λ e. Blames e
+        (λ r. IfSome (F.told files.old).folder (λ folder. option_map script_in (folder name.now) ≡ Some (Err r))) (Rose (F.told files.old).faults (F.told files.new).faults)) }
+{
+    let bytes = match read_whole(alloc, files, name, MOST_SCRIPT) {
+        Ok(bytes) => bytes,
+        Err(error) => return Err(unread(error)),
+    };
+    if bytes.len() > MOST_SCRIPT {
+        return Err(Unready::Refused(Refused::ScriptLimit));
+    }
+    match read_script(alloc, &bytes) {
+        Ok(words) => Ok(words),
+        Err(ScriptError::Line(line)) => Err(Unready::Refused(Refused::ScriptLine(line))),
+        Err(ScriptError::OutOfMemory) => Err(Unready::OutOfMemory),
+    }
+}
+
 /// How a call ends.
 #[derive(Drop)]
 pub enum Ending {
     Done(Finished),
+    Answered { finished: Finished, told: Vec<u64> },
     Usage,
     Shown,
     Refused(Refused),
@@ -111,15 +152,41 @@ fn ready_of<F: Files>(
     image: &str,
     input: &str,
 ) -> Result<Ready, Unready>
-    ensures image { IfOk result (λ r. IfSome (F.told files.old).folder (λ folder. option_map image_in (folder image.now) ≡ Some (Ok r.image))) }
+    ensures image { IfOk result (λ r. IfSome (F.told files.old).folder (λ folder. option_map single_in (folder image.now) ≡ Some (Ok r.image))) }
+    ensures one { IfOk result (λ r. r.image.header.vcpus ≡ 1) }
     ensures input { IfOk result (λ r. IfSome (F.told files.old).folder (λ folder. option_map input_in (folder input.now) ≡ Some (Ok r.input.items))) }
     ensures refused { IfErr result (λ e. Blames e
-        (λ r. IfSome (F.told files.old).folder (λ folder. IsRefusal r (option_map image_in (folder image.now)) (option_map input_in (folder input.now))))
+        (λ r. IfSome (F.told files.old).folder (λ folder. IsRefusal r (option_map single_in (folder image.now)) (option_map input_in (folder input.now))))
+        (Rose (F.told files.old).faults (F.told files.new).faults)) }
+{
+    let image = single_of(alloc, files, image)?;
+    let input = input_of(alloc, files, input)?;
+    Ok(Ready { image, input })
+}
+
+// What a run on a script's words is made of.
+#[derive(Drop)]
+struct Scripted {
+    image: Image,
+    script: Vec<u64>,
+}
+
+// The files of these names, or why there is no run on them.
+fn scripted_of<F: Files>(
+    alloc: Global,
+    files: &mut F,
+    image: &str,
+    script: &str,
+) -> Result<Scripted, Unready>
+    ensures image { IfOk result (λ s. IfSome (F.told files.old).folder (λ folder. option_map image_in (folder image.now) ≡ Some (Ok s.image))) }
+    ensures script { IfOk result (λ s. IfSome (F.told files.old).folder (λ folder. option_map script_in (folder script.now) ≡ Some (Ok s.script.items))) }
+    ensures refused { IfErr result (λ e. Blames e
+        (λ r. IfSome (F.told files.old).folder (λ folder. IsRefusal r (option_map image_in (folder image.now)) (option_map script_in (folder script.now))))
         (Rose (F.told files.old).faults (F.told files.new).faults)) }
 {
     let image = image_of(alloc, files, image)?;
-    let input = input_of(alloc, files, input)?;
-    Ok(Ready { image, input })
+    let script = script_in_file(alloc, files, script)?;
+    Ok(Scripted { image, script })
 }
 
 // Runs an image over an input and writes the console.
@@ -142,12 +209,31 @@ fn run_ready<S: Sink, H: Host>(
     }
 }
 
+// Runs an image on the words of a script, and writes its trace and its end.
+fn run_scripted<S: Sink>(alloc: Global, scripted: Scripted, steps: u64, out: &mut S) -> Ending
+    ensures ends { ScriptEndsAs scripted.image scripted.script.items steps (S.told out.old) (S.told out.new) result }
+{
+    let Scripted { image, script } = scripted;
+    let Ok(answered) = answer(alloc, &image, script, steps) else {
+        return Ending::OutOfMemory;
+    };
+    let Answered {
+        text,
+        finished,
+        told,
+    } = answered;
+    match out.put(&text) {
+        Ok(()) => Ending::Answered { finished, told },
+        Err(_) => Ending::WriteFault,
+    }
+}
+
 // Tells why there is nothing to run.
 fn give_up<S: Sink>(out: &mut S, unready: Unready) -> Ending
     ensures ends { GivesUpAs unready (S.told out.old) (S.told out.new) result }
 {
     match unready {
-        Unready::Refused(refused) => match out.put(refused.line()) {
+        Unready::Refused(refused) => match out.put(refused.line().as_bytes()) {
             Ok(()) => Ending::Refused(refused),
             Err(_) => Ending::WriteFault,
         },
@@ -170,6 +256,24 @@ fn run_files<F: Files, S: Sink, H: Host>(
 {
     match ready_of(alloc, files, name_at(words, 1), name_at(words, 2)) {
         Ok(ready) => run_ready(alloc, ready, steps, out, host),
+        Err(unready) => give_up(out, unready),
+    }
+}
+
+// What comes of the files of a run on a script's words, for which the host isn't called.
+fn script_files<F: Files, S: Sink, H: Host>(
+    alloc: Global,
+    words: &[String],
+    steps: u64,
+    files: &mut F,
+    out: &mut S,
+    _host: &H,
+) -> Ending
+    requires command { command_of (map string_bytes words.now) ≡ Some (Hostile steps) }
+    ensures ends { EndsAs (map string_bytes words.now) (told (F.told files.old) (S.told out.old) (H.told _host.now)) (told (F.told files.new) (S.told out.new) (H.told _host.now)) result }
+{
+    match scripted_of(alloc, files, name_at(words, 1), name_at(words, 2)) {
+        Ok(scripted) => run_scripted(alloc, scripted, steps, out),
         Err(unready) => give_up(out, unready),
     }
 }
@@ -210,6 +314,7 @@ fn ending_of<F: Files, S: Sink, H: Host>(
     match parse(words) {
         None => tell_usage(out),
         Some(Command::Run { steps }) => run_files(alloc, words, steps, files, out, host),
+        Some(Command::Hostile { steps }) => script_files(alloc, words, steps, files, out, host),
         Some(command) => match reading(words, &command) {
             Some(text) => show(out, &text),
             None => Ending::Usage,
@@ -218,7 +323,8 @@ fn ending_of<F: Files, S: Sink, H: Host>(
 }
 
 /// What a call of the program leaves: the status, the refusal where there is one, and of a run the
-/// order, the steps and the ends by vCPU number. On another status than 0 all lists are empty.
+/// order, the steps and the ends by vCPU number; of a run on a script there is no order, but the words
+/// that were loaded and read of the MSR. On another status than 0 all lists are empty.
 #[derive(Drop)]
 pub struct Done {
     pub status: u8,
@@ -230,6 +336,24 @@ pub struct Done {
 }
 
 impl Done {
+    // A call with a run.
+    fn with_run(finished: Finished, told: Vec<u64>) -> Done
+        ensures status { result.status ≡ 0 }
+        ensures refused { result.refused ≡ None }
+        ensures finished { finished_of result ≡ finished }
+        ensures told { result.told ≡ told }
+    {
+        let Finished { order, steps, ends } = finished;
+        Done {
+            status: 0,
+            refused: None,
+            order,
+            steps,
+            ends,
+            told,
+        }
+    }
+
     // A call without a run.
     fn without_run(alloc: Global, status: u8, refused: Option<Refused>) -> Done
         ensures status { result.status ≡ status }
@@ -249,7 +373,8 @@ impl Done {
 }
 
 /// Does what the words ask for: `run IMAGE INPUT STEPS` runs the image over the host and writes the
-/// console; `show page HEX`, `show msr HEX` and `show info HEX` write what the digits mean.
+/// console; `hostile IMAGE SCRIPT STEPS` runs vCPU 0 of the image on the words of the script and writes
+/// each item that it made on the page, and its end; `show page HEX`, `show msr HEX` and `show info HEX` write what the digits mean.
 ///
 /// | Status | Comes |
 /// |---|---|
@@ -258,7 +383,7 @@ impl Done {
 /// | 3 | where a file breaks a limit or a rule; the first of them is `refused`, and its line was written |
 /// | 4 | only where a read failed; nothing was written |
 /// | 5 | only where a write failed; a prefix of the text was written |
-/// | 6 | where memory was wanting, of a run alone; nothing was written |
+/// | 6 | where memory was wanting, of runs alone; nothing was written |
 pub fn ghcb_main<R: Threads + Sync, F: Files, S: Sink, H: Host>(
     _rt: &R,
     alloc: Global,
@@ -271,6 +396,11 @@ pub fn ghcb_main<R: Threads + Sync, F: Files, S: Sink, H: Host>(
     // The run: its order is that of rounds, its output was written, and steps, ends, history and devices are the plain machine's.
     ensures ran { (steps : ℕ) → command_of (map string_bytes words.now) ≡ Some (Run steps) → result.status ≡ 0 → IsTelling (H.told host.old) → IfSome (F.told files.old).folder (λ folder.
         RunsFiles folder (map string_bytes words.now) (finished_of result) (H.told host.new) (S.told out.old).written (S.told out.new).written) }
+    // The run on a script's words: its trace and its end were written, and the words that came, the steps and the end are handed back.
+    ensures answered { (steps : ℕ) → command_of (map string_bytes words.now) ≡ Some (Hostile steps) → result.status ≡ 0 → IfSome (F.told files.old).folder (λ folder.
+        RunsScript folder (map string_bytes words.now) (finished_of result) result.told.items (S.told out.old).written (S.told out.new).written) }
+    // The host is called for a run over it alone.
+    ensures uncalled { ((steps : ℕ) → command_of (map string_bytes words.now) ≡ Some (Run steps) → ⊥) → H.told host.new ≡ H.told host.old }
     // A reading is shown, or a write failed: no memory is wanted.
     ensures shown { (text : List ℕ) → reading_of (map string_bytes words.now) ≡ Some text
         → ((result.status ≡ 0) × ((S.told out.new).written ≡ wrote (S.told out.old).written text) × IsWithoutRun result) ⊎ (result.status ≡ 5) }
@@ -290,17 +420,11 @@ pub fn ghcb_main<R: Threads + Sync, F: Files, S: Sink, H: Host>(
     ensures complete { (Rose (F.told files.old).faults (F.told files.new).faults → ⊥) → (Rose (S.told out.old).faults (S.told out.new).faults → ⊥)
         → IfSome (F.told files.old).folder (λ folder. (s : Said) → said folder (map string_bytes words.now) ≡ Some s → (result.status ≡ s.status) ⊎ (result.status ≡ 6)) }
     ensures lists { (result.status ≡ 0) ⊎ IsWithoutRun result }
-    ensures told { result.told.items ≡ [] }
+    ensures told { ((steps : ℕ) → command_of (map string_bytes words.now) ≡ Some (Hostile steps) → result.status ≡ 0 → ⊥) → result.told.items ≡ [] }
 {
     match ending_of(alloc, words, files, out, host) {
-        Ending::Done(Finished { order, steps, ends }) => Done {
-            status: 0,
-            refused: None,
-            order,
-            steps,
-            ends,
-            told: Vec::new(alloc),
-        },
+        Ending::Done(finished) => Done::with_run(finished, Vec::new(alloc)),
+        Ending::Answered { finished, told } => Done::with_run(finished, told),
         Ending::Usage => Done::without_run(alloc, 2, None),
         Ending::Shown => Done::without_run(alloc, 0, None),
         Ending::Refused(refused) => Done::without_run(alloc, 3, Some(refused)),

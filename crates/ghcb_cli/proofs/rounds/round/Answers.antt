@@ -11,7 +11,7 @@ pub visit-requires : goal.visit-requires
 visit-requires g c =
     let within : c.from.result < length c.loop-i.seats = omega arith in
     let is = numbered_get 0 c.from.result c.loop-i.seats _ c.loop-i.invariant.numbered (slice_get-get_or c.loop-i.seats c.from.result c.index-seats-from.result within) in
-    record { known = omega (arith, is) }
+    record { numbered = omega (arith, is, c.from.ensures); known = omega (arith, is); few = omega (arith, is) }
 
 pub returns-in_err-visit-clause-numbered : goal.returns-in_err-visit-clause-numbered
 returns-in_err-visit-clause-numbered g c =
@@ -40,7 +40,7 @@ loop-i-preserved g c =
           let before : Machine = visits image budget c.loop-i.i m in
           let after : Stands (slice_set seats k next) (told c.visit.new.host) c.visit.new.order.items (visit image budget k before) =
           stands_visit image budget k before seats seat next (told c.loop-i.host) (told c.visit.new.host) c.loop-i.order.items c.visit.new.order.items
-          (c.loop-i.invariant.stands m stands) at (is ∙ zeroth) c.in_ok-visit.ensures.number (λ stop there tells. c.in_ok-visit.ensures.ok image before stop there tells) in
+          (c.loop-i.invariant.stands m stands) at (is ∙ zeroth) c.in_ok-visit.ensures.number (λ stop there tells. c.in_ok-visit.ensures.ok before stop there tells) in
           subst (λ n. Stands (slice_set seats k next) (told c.visit.new.host) c.visit.new.order.items (visits image budget n m)) one
           (subst (λ n. Stands (slice_set seats k next) (told c.visit.new.host) c.visit.new.order.items (visit image budget n before)) c.from.ensures after);
     }

@@ -2,12 +2,13 @@ use Rattle.std.proofs.Common.{◌≡◌, ◌∙◌, sym, ap, subst, arith, true,
 use Rattle.std.specs.Prelude.{is_some}
 use Rattle.std.specs.List.{list_all}
 use Rattle.std.proofs.lemmas.Result.{IfOk-weaker}
-use Rattle.host_events.specs.Hosting.{Hosting, started}
+use Rattle.host_events.specs.Hosting.{started}
 use Rattle.ghcb_cli.specs.Plain.{machine_at_start, all_ended, rounds}
+use Rattle.vcpu_core.specs.State.{end_in}
 use Rattle.ghcb_cli.specs.declared.seat.Seat.{Seat}
 use Rattle.ghcb_cli.specs.Standing.{Stands}
 use Rattle.ghcb_cli.proofs.PlainRounds.{rounds_end}
-use Rattle.ghcb_cli.proofs.Seating.{numbered_at, stands_first, ended_over, ran, hands_back}
+use Rattle.ghcb_cli.proofs.Seating.{starts_telling, stands_first, ended_over, ran, hands_back}
 use Rattle.ghcb_cli.proofs.rounds.run_rounds.Goals as goal
 
 pub loop-done-init : goal.loop-done-init
@@ -19,17 +20,19 @@ loop-done-init g c =
     subst (λ vcpus. told c.start.new.self ≡ started vcpus c.args.input.items (told c.args.host.now)) c.vcpus.ensures.value c.in_ok-start.ensures.ok in
     record {
       many = c.in_ok-seats.ensures.many;
-      numbered = numbered_at 0 seats _ c.in_ok-seats.ensures.at;
-      hosted = ap (λ (h : Hosting). h.vcpus) starts;
+      numbered = c.in_ok-seats.ensures.numbered;
+      hosted = c.in_ok-seats.ensures.hosted;
       stands = λ telling.
-          subst (λ order. Stands seats (told c.start.new.self) order (machine_at_start image c.args.budget c.args.input.items)) (sym c.new-order.ensures.items)
-          (stands_first image c.args.budget c.args.input.items seats (told c.args.host.now) (told c.start.new.self) telling starts c.in_ok-seats.ensures.at);
+          let some = starts_telling image c.args.input.items (told c.args.host.now) (told c.start.new.self) telling starts in
+          subst (λ order. Stands seats (told c.open.new.host) order (machine_at_start image c.args.budget c.args.input.items)) (sym c.new-order.ensures.items)
+          (stands_first image c.args.budget c.args.input.items seats (told c.args.host.now) (told c.start.new.self) (told c.open.new.host) telling starts
+          c.in_ok-seats.ensures.devices c.in_ok-seats.ensures.history (c.in_ok-seats.ensures.at some));
     }
 
 pub returns-then-have_ended : goal.returns-then-have_ended
 returns-then-have_ended g c =
     let image = c.args.image.now in
-    let over : list_all (λ (s : Seat). is_some s.vcpu.end) c.loop-done.seats.items ≡ true = search rules in
+    let over : list_all (λ (s : Seat). is_some (end_in s.vcpu.phase)) c.loop-done.seats.items ≡ true = search rules in
     let seats : c.deref-then-have_ended.result.now ≡ c.loop-done.seats.items = c.deref-then-have_ended.ensures.value in
     record {
       ran = λ telling.

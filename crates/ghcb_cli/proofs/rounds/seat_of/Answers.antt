@@ -1,11 +1,10 @@
-use Rattle.std.proofs.Common.{◌≡◌, ap, length}
-use Rattle.page_words.specs.Told.{Kept}
-use Rattle.ghcb_cli.specs.Plain.{start_of}
+use Rattle.vcpu_core.specs.State.{start_of}
 use Rattle.ghcb_cli.proofs.Visiting.{runs_on}
 use Rattle.ghcb_cli.proofs.rounds.seat_of.Goals as goal
 
 pub returns-clause-at : goal.returns-clause-at
-returns-clause-at c =
-    let full : length c.new-page.result.words ≡ 512 = ap (λ (k : Kept). length k.words) c.new-page.ensures.blank in
-    runs_on c.args.budget c.args.number (start_of c.args.image.now c.args.number) c.new-vcpu.result c.run_to_exit.new.self c.new-page.result c.run_to_exit.new.page
-    c.new-vcpu.ensures.number c.new-vcpu.ensures.start full c.run_to_exit.ensures.exits
+returns-clause-at g c = λ some.
+    let seat = c.in_ok-seat.seat in
+    let met = c.in_ok-seat.ensures.met some in
+    runs_on c.args.budget c.args.number (start_of c.args.image.now c.args.number) seat.vcpu c.run_to_exit.new.self seat.page c.run_to_exit.new.page
+    met.0 met.1 c.run_to_exit.ensures.says c.run_to_exit.ensures.goes c.run_to_exit.ensures.lawful

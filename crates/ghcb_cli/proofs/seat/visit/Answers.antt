@@ -1,14 +1,21 @@
-use Rattle.std.proofs.Common.{rules, ◌≡◌, ◌++◌, ◌∷◌, [], Some}
-use Rattle.host_events.specs.History.{turn_of}
+use Rattle.std.proofs.Common.{rules, ◌≡◌, ◌++◌, ◌∷◌, [], true, subst}
+use Rattle.host_events.specs.Hosting.{Leaves, after_serve}
+use Rattle.vcpu_core.specs.State.{is_waiting, pending_in}
 use Rattle.ghcb_cli.proofs.Visiting.{visited}
 use Rattle.ghcb_cli.proofs.seat.visit.Goals as goal
 
 pub returns-in_ok-push-clause-ok : goal.returns-in_ok-push-clause-ok
 returns-in_ok-push-clause-ok g c =
     let told = g.H.Host.told in
-    let waits : c.args.seat.now.vcpu.waits ≡ Some c.in-Some.event = search rules in
-    let pushed : c.push.new.self.items ≡ c.args.order.now.items ++ turn_of (record { vcpu = c.args.seat.now.vcpu.number; event = c.in-Some.event }) ∷ [] = search rules in
-    visited c.both_ends.ensures.law c.args.budget c.args.seat.now.vcpu c.resume.new.self c.proceed.new.self
-    c.args.seat.now.page c.serve.new.page c.resume.new.page c.proceed.new.page
-    (told c.args.host.now) (told c.serve.new.self) c.args.order.now.items c.push.new.self.items c.in-Some.event
-    waits c.in_ok-serve.ensures.ok c.in_ok-serve.ensures.page pushed c.resume.ensures.settles c.resume.ensures.number c.proceed.ensures.proceeds
+    let v0 = c.args.seat.now.vcpu in
+    let page0 = c.args.seat.now.page in
+    let waits : is_waiting v0.phase ≡ true = search rules in
+    let pushed : c.push.new.self.items ≡ c.args.order.now.items ++ record { vcpu = v0.number; count = pending_in v0.phase } ∷ [] = search rules in
+    let serves : told c.serve.new.self ≡ after_serve v0.number page0 (told c.args.host.now) =
+    subst (λ n. told c.serve.new.self ≡ after_serve n page0 (told c.args.host.now)) c.requires.numbered c.in_ok-serve.ensures.ok in
+    let leaves : Leaves v0.number page0 c.serve.new.page (told c.args.host.now) =
+    subst (λ n. Leaves n page0 c.serve.new.page (told c.args.host.now)) c.requires.numbered c.in_ok-serve.ensures.page in
+    visited c.agree.ensures.law c.args.image.now c.args.budget v0 c.resume.new.self c.run_to_exit.new.self
+    page0 c.serve.new.page c.resume.new.page c.run_to_exit.new.page
+    (told c.args.host.now) (told c.serve.new.self) c.args.order.now.items c.push.new.self.items
+    c.requires.few waits serves leaves pushed c.resume.ensures.runs c.run_to_exit.ensures.says c.run_to_exit.ensures.goes c.run_to_exit.ensures.lawful
