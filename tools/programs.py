@@ -14,7 +14,7 @@ TOP = Path(__file__).resolve().parent.parent
 SCRIPT = Path(sys.argv[0]).name
 BUILT = TOP / "crates/ghcb_run/out/ghcb_run"
 # The model as far as this program goes.
-MODEL_VARIABLES = {"ORACLE_STAGE": "3"}
+MODEL_VARIABLES = {"ORACLE_STAGE": "5"}
 MODEL_WORDS = ("--proto", "1")
 SECONDS = 300
 
