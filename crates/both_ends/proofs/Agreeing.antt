@@ -7,6 +7,7 @@ use Rattle.page_words.specs.declared.item.Item.TheVariants.{Exit}
 use Rattle.page_words.specs.Told.{Kept, kept_after, kept_after_all}
 use Rattle.page_words.specs.Stores.{word_after_all}
 use Rattle.page_words.proofs.Keeping.{length-kept_after_all, index-kept_after_all}
+use Rattle.ghcb_layout.specs.Address.{ghcb_of}
 use Rattle.ghcb_layout.specs.declared.field.Field.TheVariants.{Xcr0}
 use Rattle.event_table.specs.declared.access.Access.{Access}
 use Rattle.event_table.specs.declared.access.Access.TheVariants as a
@@ -15,7 +16,7 @@ use Rattle.event_table.specs.Lawful.{IsLawfulAccess}
 use Rattle.event_table.specs.Rows.{row_of, kind_of, registers_of, registers, access_of}
 use Rattle.device_bus.specs.Devices.{Devices, answer}
 use Rattle.vc_handler.specs.Wire.{wire, store, stored, given, low_bits, high_bits}
-use Rattle.host_events.specs.Calls.{ghcb_of, asked, has_infos, has_shown, call_of}
+use Rattle.host_events.specs.Calls.{asked, has_infos, has_shown, call_of}
 use Rattle.host_events.specs.declared.call.Call.{Call}
 use Rattle.host_events.specs.declared.call.Call.TheVariants.{Asked}
 use Rattle.host_events.specs.Served.{Served, reply, served, served_by, entries_by}

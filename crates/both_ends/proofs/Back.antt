@@ -14,10 +14,11 @@ use Rattle.exit_info.specs.IoInfo as io
 use Rattle.exit_info.specs.ExitCode.{event_of}
 use Rattle.exit_info.proofs.Inverse.{info_of-word_of}
 use Rattle.ghcb_layout.specs.declared.bitmap.Bitmap.{Bitmap}
+use Rattle.ghcb_layout.specs.Address.{ghcb_of}
 use Rattle.msr_protocol.specs.Bits.{number_in}
 use Rattle.msr_protocol.specs.MsrWord.{read_of}
 use Rattle.msr_protocol.specs.declared.msr_word.MsrWord.TheVariants.{GhcbAddress}
-use Rattle.host_events.specs.Calls.{io_kind, kind_by, ghcb_of, asked, has_infos, has_shown}
+use Rattle.host_events.specs.Calls.{io_kind, kind_by, asked, has_infos, has_shown}
 
 abbrev io_of : ℕ → ℕ → Bool → IoInfo
 io_of port size input = record { port = port; input = input; string = false; rep = false; size = 8 * size; address = 64; segment = 0 }

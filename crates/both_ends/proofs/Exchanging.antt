@@ -1,5 +1,5 @@
 -- An exit of a guest over a host.
-use Rattle.std.proofs.Common.{◌≡◌, ℕ, ◌<◌, List, [], ◌∷◌, ◌++◌, length, Some, None, refl, sym, ap, ◌∙◌, subst}
+use Rattle.std.proofs.Common.{◌≡◌, ℕ, ◌<◌, List, [], ◌++◌, length, Some, None, refl, sym, ap, ◌∙◌, subst}
 use Rattle.std.specs.Prelude.{Option, option_map, IfSome}
 use Rattle.std.proofs.lemmas.Option.{same_Some}
 use Rattle.page_words.specs.Told.{Told, Kept, Makes, keeping, kept_after_all}

@@ -1,5 +1,5 @@
 -- The event table (AMD 56421, section 4, the state of each non-automatic exit).
-use Rattle.std.specs.Prelude.{ℕ, ◌+◌, ◌*◌, ◌%◌, ◌^◌, ◌==◌, if◌then◌else◌}
+use Rattle.std.specs.Prelude.{ℕ, ◌+◌, ◌*◌, ◌%◌, ◌^◌, ◌==◌, ◌&&◌, Bool, if◌then◌else◌}
 use Rattle.x86_base.specs.declared.reg.Width.{Width}
 use Rattle.x86_base.specs.declared.reg.Width.TheVariants.{B8, B16, B32, B64}
 use Rattle.x86_base.specs.Widths.{low}
@@ -44,6 +44,10 @@ row_of kind.Rdtscp = row 0x87 0 (shows 0 0 0 0 0) (results 1 1 1 0) B32
 row_of kind.Rdpmc = row 0x6F 0 (shows 0 0 1 0 0) (results 1 0 1 0) B32
 row_of kind.Wbinvd = row 0x89 0 (shows 0 0 0 0 0) (results 0 0 0 0) B32
 row_of kind.Vmmcall = row 0x81 0 (shows 1 1 0 0 0) (results 1 0 0 0) B64
+
+-- XCR0 is shown with the leaf of the extended state, 0xD (APM volume 3, CPUID)
+abbrev pub shows_xcr0 : Row → ℕ → Bool
+shows_xcr0 r a = r.shows.a && r.shows.xcr && (a % 2 ^ 32 == 0xD)
 
 -- an access is its kind and the registers that it shows
 abbrev pub kind_of : Access → Kind

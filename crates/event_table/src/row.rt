@@ -52,6 +52,15 @@ pub struct Row {
     pub width: Width,
 }
 
+impl Row {
+    /// Whether XCR0 is shown beside this RAX: with the leaf of the extended state.
+    pub fn shows_xcr0(&self, a: u64) -> bool
+        ensures value { result ≡ rows.shows_xcr0 self.now a }
+    {
+        self.shows.a && self.shows.xcr && a & 0xFFFF_FFFF == 0xD
+    }
+}
+
 /// The registers that an event shows.
 #[derive(Clone, Copy, Debug, PartialEq, Eq)]
 pub struct Registers {

@@ -1,5 +1,5 @@
 // Instructions that exit, and exceptions, over one page of RAM.
-use crate::{Access, Values, named, place, raise};
+use crate::{Access, Kind, Values, named, place, raise, row_of};
 use image_file::{Image, Ram};
 use std::alloc::Global;
 use std::test::Fail;
@@ -222,4 +222,13 @@ fn refuses_an_exception_with_nothing_changed(rt: HostRuntime) -> Result<(), Fail
         assert_eq!(rt; after, regs(A, C, D, rsp));
     }
     Ok(())
+}
+
+#[test]
+fn xcr0_is_shown_with_the_leaf_of_the_extended_state(rt: HostRuntime) {
+    let cpuid = row_of(&Kind::Cpuid);
+    assert_eq!(rt; cpuid.shows_xcr0(0xD), true);
+    assert_eq!(rt; cpuid.shows_xcr0(0xF_0000_000D), true);
+    assert_eq!(rt; cpuid.shows_xcr0(0xE), false);
+    assert_eq!(rt; row_of(&Kind::Vmmcall).shows_xcr0(0xD), false);
 }

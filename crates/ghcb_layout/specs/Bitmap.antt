@@ -1,7 +1,16 @@
 -- The valid bitmap (AMD 56421, "GHCB Layout", VALID_BITMAP): bit k says that word k is filled in.
-use Rattle.std.specs.Prelude.{◌≡◌, ◌≢◌, ℕ, ◌+◌, ◌-◌, ◌*◌, ◌^◌, ◌<◌, ◌==◌, nat_lt, Bool, true, if◌then◌else◌}
+use Rattle.std.specs.Prelude.{◌≡◌, ◌≢◌, ℕ, ◌+◌, ◌-◌, ◌*◌, ◌^◌, ◌%◌, ◌<◌, ◌==◌, nat_lt, Bool, true, if◌then◌else◌}
 use Rattle.std.specs.Int.{bit_at}
 use Rattle.ghcb_layout.specs.declared.bitmap.Bitmap.{Bitmap}
+use Rattle.ghcb_layout.specs.declared.field.Field.{Field}
+use Rattle.ghcb_layout.specs.Field.{word_number}
+
+-- its two words, which are no fields
+abbrev pub bitmap_low : ℕ
+bitmap_low = 126
+
+abbrev pub bitmap_high : ℕ
+bitmap_high = 127
 
 -- whether bit k is set: the first word has bits 0 to 63, and the second has bits 64 to 127
 abbrev pub has_bit : Bitmap → ℕ → Bool
@@ -19,3 +28,7 @@ with_bit b k = if nat_lt k 64 then record b { low = with_one b.low k } else reco
 pub record Sets (old new : Bitmap) (k : ℕ) : Type 0 where
   pub bit : has_bit new k ≡ true
   pub others : (j : ℕ) → j < 128 → j ≢ k → has_bit new j ≡ has_bit old j
+
+-- a field's bit in its word of the bitmap, where it is wanted, and else 0
+abbrev pub bit_if : Field → Bool → ℕ
+bit_if field is = if is then 2 ^ (word_number field % 64) else 0

@@ -1,6 +1,9 @@
 -- The last word of a page (AMD 56421, "GHCB Layout"): bits 31:16 are the protocol version, and bits 63:32 the usage.
 use Rattle.std.specs.Prelude.{ℕ, ◌+◌, ◌*◌, ◌/◌, ◌%◌, ◌^◌}
 
+abbrev pub last_word : ℕ
+last_word = 511
+
 abbrev pub version_in : ℕ → ℕ
 version_in word = word / 2 ^ 16 % 2 ^ 16
 

@@ -1,6 +1,6 @@
 use crate::{
-    Bitmap, Field, NotAField, bit_of, field_at, name, offset, page_from_bytes, page_to_bytes,
-    protocol_of, protocol_word, word_of,
+    Bitmap, Field, LAST_WORD, NotAField, bit_if, bit_of, field_at, ghcb_of, name, offset,
+    page_from_bytes, page_to_bytes, protocol_of, protocol_word, word_of,
 };
 use page_words::Word;
 
@@ -73,9 +73,25 @@ fn a_page_of_bytes(rt: HostRuntime) {
     bytes[0xFFA] = 1;
     let page = page_from_bytes(&bytes);
     assert_eq!(rt; page.word(word_of(Field::Rax)), 0x8000_0000_0000_0048);
-    assert_eq!(rt; protocol_of(page.word(Word::new(511).unwrap())), (1, 0));
+    assert_eq!(rt;
+        protocol_of(page.word(Word::new(LAST_WORD).unwrap())),
+        (1, 0)
+    );
     assert_eq!(rt; page.msr_word(), 0);
     let mut written = [0xFF; 4096];
     page_to_bytes(&page, &mut written);
     assert_eq!(rt; written, bytes);
+}
+
+#[test]
+fn a_bit_where_it_is_wanted(rt: HostRuntime) {
+    assert_eq!(rt; bit_if(Field::Rax, true), 1 << 63);
+    assert_eq!(rt; bit_if(Field::Rcx, true), 1 << 33);
+    assert_eq!(rt; bit_if(Field::Rcx, false), 0);
+}
+
+#[test]
+fn a_page_for_each_vcpu(rt: HostRuntime) {
+    assert_eq!(rt; ghcb_of(0), 0x8000_0000);
+    assert_eq!(rt; ghcb_of(7), 0x8000_7000);
 }

@@ -1,13 +1,14 @@
 -- What a page asks for: by its MSR word, and then by the rules of an event's page (AMD 56421, "GHCB MSR Protocol", "GHCB Layout" and
 -- section 4, the state of each non-automatic exit). Which code a broken rule has is this project's own.
-use Rattle.std.specs.Prelude.{ℕ, ◌+◌, ◌*◌, ◌/◌, ◌%◌, ◌^◌, ◌<◌, ◌==◌, Bool, not, ◌&&◌, ◌||◌, if◌then◌else◌, Result, Ok, Err, slice_index}
+use Rattle.std.specs.Prelude.{ℕ, ◌/◌, ◌<◌, ◌==◌, Bool, not, ◌&&◌, ◌||◌, if◌then◌else◌, Result, Ok, Err, slice_index}
 use Rattle.page_words.specs.Told.{Kept}
 use Rattle.ghcb_layout.specs.declared.bitmap.Bitmap.{Bitmap}
 use Rattle.ghcb_layout.specs.declared.field.Field.{Field}
 use Rattle.ghcb_layout.specs.declared.field.Field.TheVariants.{Cpl, Rax, Rcx, Rdx, ExitCode, ExitInfo1, ExitInfo2, Xcr0}
-use Rattle.ghcb_layout.specs.Bitmap.{has_bit}
+use Rattle.ghcb_layout.specs.Address.{ghcb_of}
+use Rattle.ghcb_layout.specs.Bitmap.{bitmap_low, bitmap_high, has_bit}
 use Rattle.ghcb_layout.specs.Field.{word_number}
-use Rattle.ghcb_layout.specs.Protocol.{version_in, usage_in}
+use Rattle.ghcb_layout.specs.Protocol.{last_word, version_in, usage_in}
 use Rattle.msr_protocol.specs.declared.msr_word.MsrWord.{MsrWord}
 use Rattle.msr_protocol.specs.declared.msr_word.MsrWord.TheVariants as msr
 use Rattle.msr_protocol.specs.declared.msr_word.BadMsr.{BadMsr}
@@ -25,25 +26,11 @@ use Rattle.event_table.specs.declared.row.Kind.{Kind}
 use Rattle.event_table.specs.declared.row.Kind.TheVariants as kind
 use Rattle.event_table.specs.declared.row.Row.{Row}
 use Rattle.event_table.specs.Lawful.{IsLawful}
-use Rattle.event_table.specs.Rows.{row_of, access_of, registers}
+use Rattle.event_table.specs.Rows.{row_of, access_of, registers, shows_xcr0}
 use Rattle.host_events.specs.declared.call.BadPage.{BadPage}
 use Rattle.host_events.specs.declared.call.BadPage.TheVariants.{Usage, Missing, Invalid, Unknown}
 use Rattle.host_events.specs.declared.call.Call.{Call}
 use Rattle.host_events.specs.declared.call.Call.TheVariants as call
-
--- the words of the valid bitmap, which are no fields, and the last word
-abbrev pub bitmap_low : ℕ
-bitmap_low = 126
-
-abbrev pub bitmap_high : ℕ
-bitmap_high = 127
-
-abbrev pub last_word : ℕ
-last_word = 511
-
--- the address of a vCPU's page
-abbrev pub ghcb_of : ℕ → ℕ
-ghcb_of vcpu = 0x80000000 + 0x1000 * vcpu
 
 -- the code of a broken rule
 abbrev pub code_of : BadPage → ℕ
@@ -94,10 +81,6 @@ kind_by (Ok codes.MmioWrite) info = Err Unknown
 
 abbrev pub kind_in : (ℕ → ℕ) → Result Kind BadPage
 kind_in word = kind_by (event_of (field_in word ExitCode)) (field_in word ExitInfo1)
-
--- XCR0 is shown with the leaf of the extended state, 0xD (APM volume 3, CPUID)
-abbrev pub shows_xcr0 : Row → ℕ → Bool
-shows_xcr0 r a = r.shows.a && r.shows.xcr && (a % 2 ^ 32 == 0xD)
 
 -- each word that a row shows has its bit
 abbrev pub has_shown : Row → ℕ → Bitmap → Bool

@@ -1,10 +1,11 @@
 -- What a hypervisor leaves of a page (AMD 56421, "GHCB Layout", SW_EXITINFO1, SW_EXITINFO2 and VALID_BITMAP).
-use Rattle.std.specs.Prelude.{ℕ, ◌+◌, ◌%◌, ◌^◌, Bool, if◌then◌else◌, List, [], ◌∷◌, ◌++◌}
+use Rattle.std.specs.Prelude.{ℕ, ◌+◌, Bool, if◌then◌else◌, List, [], ◌∷◌, ◌++◌}
 use Rattle.page_words.specs.declared.item.Item.{Item}
 use Rattle.page_words.specs.declared.item.Item.TheVariants.{Store}
 use Rattle.page_words.specs.Told.{Kept, kept_after_all}
 use Rattle.ghcb_layout.specs.declared.field.Field.{Field}
 use Rattle.ghcb_layout.specs.declared.field.Field.TheVariants.{Rax, Rcx, Rdx, Rbx, ExitInfo1, ExitInfo2}
+use Rattle.ghcb_layout.specs.Bitmap.{bitmap_low, bitmap_high, bit_if}
 use Rattle.ghcb_layout.specs.Field.{word_number}
 use Rattle.msr_protocol.specs.declared.msr_word.MsrWord.TheVariants as msr
 use Rattle.msr_protocol.specs.MsrWord.{encoded}
@@ -21,15 +22,11 @@ use Rattle.device_bus.specs.Devices.{Devices, answer, after_access, cpuid, regis
 use Rattle.host_events.specs.declared.call.Call.{Call}
 use Rattle.host_events.specs.declared.call.Call.TheVariants as call
 use Rattle.host_events.specs.declared.history.Entry.{Entry}
-use Rattle.host_events.specs.Calls.{bitmap_low, bitmap_high, call_of}
+use Rattle.host_events.specs.Calls.{call_of}
 
 -- a result in its field's word, where the row has it
 abbrev pub given : Field → Bool → ℕ → List Item
 given field is value = if is then Store (word_number field) value ∷ [] else []
-
--- a field's bit in its word of the valid bitmap, where the row has it
-abbrev pub bit_if : Field → Bool → ℕ
-bit_if field is = if is then 2 ^ (word_number field % 64) else 0
 
 -- the bits of the two exit infos, in the upper word of the valid bitmap
 abbrev pub infos : ℕ

@@ -9,24 +9,11 @@ ghost use Rattle.host_events.specs.Calls.{IsLawfulCall, call_of};
 use crate::{BadPage, Call};
 use event_table::{Access, Event, Kind, Registers, Row, access_of, row_of};
 use exit_info::{ExitCode, IoInfo};
-use ghcb_layout::{Bitmap, Field, bit_of, protocol_of, word_of};
+use ghcb_layout::{
+    BITMAP_HIGH, BITMAP_LOW, Bitmap, Field, LAST_WORD, bit_of, ghcb_of, protocol_of, word_of,
+};
 use msr_protocol::{MsrWord, read};
 use page_words::{Word, Words};
-
-/// The words of the valid bitmap.
-pub const BITMAP_LOW: u16 = 126;
-
-pub const BITMAP_HIGH: u16 = 127;
-
-/// The word of the protocol version and the usage.
-const LAST: u16 = 511;
-
-/// The address of a vCPU's page.
-fn ghcb_of(vcpu: u16) -> u64
-    ensures value { result ≡ rules.ghcb_of vcpu }
-{
-    0x8000_0000 + 0x1000 * u64::from(vcpu)
-}
 
 fn word_in(page: &Words, number: u16) -> u64
     requires number { number < 512 }
@@ -122,13 +109,6 @@ fn kind_in(page: &Words) -> Result<Kind, BadPage>
     }
 }
 
-/// Whether XCR0 is shown: with the leaf of the extended state.
-fn shows_xcr0(row: &Row, a: u64) -> bool
-    ensures value { result ≡ rules.shows_xcr0 row.now a }
-{
-    row.shows.a && row.shows.xcr && a & 0xFFFF_FFFF == 0xD
-}
-
 /// Whether each word that a row shows has its bit.
 fn has_shown(row: &Row, a: u64, bitmap: &Bitmap) -> bool
     ensures value { result ≡ rules.has_shown row.now a bitmap.now }
@@ -137,7 +117,7 @@ fn has_shown(row: &Row, a: u64, bitmap: &Bitmap) -> bool
         && (!row.shows.a || has(bitmap, Field::Rax))
         && (!row.shows.c || has(bitmap, Field::Rcx))
         && (!row.shows.d || has(bitmap, Field::Rdx))
-        && (!shows_xcr0(row, a) || has(bitmap, Field::Xcr0))
+        && (!row.shows_xcr0(a) || has(bitmap, Field::Xcr0))
 }
 
 /// The access of a kind of event, where the words that it shows are there.
@@ -163,7 +143,7 @@ fn asked(page: &Words) -> Result<Access, BadPage>
     ensures value { result ≡ rules.asked (λ number. slice_index page.now.words number) }
     ensures lawful { IfOk result (λ access. IsLawfulAccess access) }
 {
-    let (version, usage) = protocol_of(word_in(page, LAST));
+    let (version, usage) = protocol_of(word_in(page, LAST_WORD));
     if version != 1 {
         return Err(BadPage::Invalid);
     }

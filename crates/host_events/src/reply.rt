@@ -5,11 +5,10 @@ ghost use Rattle.page_words.specs.declared.item.Item.TheVariants.{Store};
 ghost use Rattle.host_events.specs.Served as replies;
 ghost use Rattle.host_events.specs.Served.{IsLawfulAnswer};
 
-use crate::reading::{BITMAP_HIGH, BITMAP_LOW};
 use device_bus::{Answer, cpuid_register};
 use event_table::{Event, Results, Values, kind_of, row_of};
 use exit_info::Inject;
-use ghcb_layout::{Field, bit_of, word_of};
+use ghcb_layout::{BITMAP_HIGH, BITMAP_LOW, Field, bit_if, word_of};
 use msr_protocol::{MsrWord, write};
 use page_words::{Page, Word, Words};
 
@@ -43,13 +42,6 @@ fn store_if(page: &mut Words, field: Field, is: bool, value: u64)
     if is {
         page.store(word_of(field), value);
     }
-}
-
-/// A field's bit in its word of the valid bitmap, where the row has it.
-fn bit_if(field: Field, is: bool) -> u64
-    ensures value { result ≡ replies.bit_if field is }
-{
-    if is { 1 << (bit_of(field) % 64) } else { 0 }
 }
 
 fn store_done(page: &mut Words, results: &Results, values: &Values)

@@ -7,7 +7,8 @@ use Rattle.event_table.specs.declared.event.Event.TheVariants.{One}
 use Rattle.event_table.specs.Plan.{Stepped, Moved, Exits, Stops}
 use Rattle.event_table.specs.Rows.{row_of, kind_of, registers_of}
 use Rattle.guest_interp.specs.Stepping.{Counted, at_count, step_of, Standstill, Waits, Ended, stop_after, next_of, next_within}
-use Rattle.vc_handler.specs.Wire.{wire, stored, store, ghcb_of}
+use Rattle.ghcb_layout.specs.Address.{ghcb_of}
+use Rattle.vc_handler.specs.Wire.{wire, stored, store}
 use Rattle.vcpu_core.specs.declared.phase.Phase.{Phase}
 use Rattle.vcpu_core.specs.declared.phase.Phase.TheVariants as phase
 use Rattle.vcpu_core.specs.Running.{said_by, said_at}

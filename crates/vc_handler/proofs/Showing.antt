@@ -8,7 +8,8 @@ use Rattle.page_words.proofs.Making.{makes_then}
 use Rattle.ghcb_layout.specs.declared.field.Field.TheVariants.{Cpl, Rax, Rcx, Rdx, ExitCode, ExitInfo1, ExitInfo2, Xcr0}
 use Rattle.event_table.specs.declared.row.Row.{Row}
 use Rattle.event_table.specs.declared.row.Registers.{Registers}
-use Rattle.vc_handler.specs.Wire.{given, store, shown, stored, shows_xcr0, low_bits, high_bits}
+use Rattle.event_table.specs.Rows.{shows_xcr0}
+use Rattle.vc_handler.specs.Wire.{given, store, shown, stored, low_bits, high_bits}
 
 stores_then : (t u v : Told) (xs ys : List (ℕ × ℕ)) → Makes t (map store xs) u → Makes u (map store ys) v → Makes t (map store (xs ++ ys)) v
 stores_then t u v xs ys first second =

@@ -3,7 +3,7 @@ use Rattle.std.specs.Prelude.{ℕ, ◌%◌, ◌^◌, ◌==◌, Bool, not, ◌&&�
 use Rattle.page_words.specs.Programs.{Program, pure, load, ◌>>=◌}
 use Rattle.ghcb_layout.specs.declared.field.Field.TheVariants.{Rax, Rcx, Rdx, Rbx, ExitInfo1, ExitInfo2}
 use Rattle.ghcb_layout.specs.declared.bitmap.Bitmap.{Bitmap}
-use Rattle.ghcb_layout.specs.Bitmap.{has_bit}
+use Rattle.ghcb_layout.specs.Bitmap.{bitmap_low, bitmap_high, has_bit}
 use Rattle.ghcb_layout.specs.Field.{word_number}
 use Rattle.exit_info.specs.declared.inject.Inject.{Inject}
 use Rattle.exit_info.specs.declared.inject.BadInject.{BadInject}
@@ -16,7 +16,6 @@ use Rattle.event_table.specs.declared.outcome.Outcome.{Outcome}
 use Rattle.event_table.specs.declared.outcome.Outcome.TheVariants.{Done, Raise, Terminate}
 use Rattle.event_table.specs.declared.row.Results.{Results}
 use Rattle.event_table.specs.Rows.{row_of, kind_of}
-use Rattle.vc_handler.specs.Wire.{bitmap_low, bitmap_high}
 
 -- a word, where it is asked for, and else 0
 abbrev pub load_if : Bool → ℕ → Program ℕ

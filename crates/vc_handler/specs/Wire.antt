@@ -1,35 +1,23 @@
 -- What a guest shows of an event: its wire form (AMD 56421, "GHCB Layout", and section 4, the state of each non-automatic exit).
-use Rattle.std.specs.Prelude.{ℕ, ◌+◌, ◌-◌, ◌*◌, ◌%◌, ◌^◌, ◌==◌, ◌&&◌, nat_lt, Bool, if◌then◌else◌, List, [], ◌∷◌, ◌++◌, map, sum_by}
+use Rattle.std.specs.Prelude.{ℕ, ◌-◌, ◌^◌, nat_lt, Bool, if◌then◌else◌, List, [], ◌∷◌, ◌++◌, map, sum_by}
 use Rattle.page_words.specs.declared.item.Item.{Item}
 use Rattle.page_words.specs.declared.item.Item.TheVariants.{Store, Exit}
 use Rattle.ghcb_layout.specs.declared.field.Field.{Field}
 use Rattle.ghcb_layout.specs.declared.field.Field.TheVariants.{Cpl, Rax, Rcx, Rdx, ExitCode, ExitInfo1, ExitInfo2, Xcr0}
 use Rattle.ghcb_layout.specs.declared.bitmap.Bitmap.{Bitmap}
+use Rattle.ghcb_layout.specs.Address.{ghcb_of}
+use Rattle.ghcb_layout.specs.Bitmap.{bitmap_low, bitmap_high}
 use Rattle.ghcb_layout.specs.Field.{word_number}
-use Rattle.ghcb_layout.specs.Protocol.{word_with}
+use Rattle.ghcb_layout.specs.Protocol.{last_word, word_with}
 use Rattle.event_table.specs.declared.event.Event.{Event}
 use Rattle.event_table.specs.declared.event.Event.TheVariants.{One}
 use Rattle.event_table.specs.declared.row.Row.{Row}
 use Rattle.event_table.specs.declared.row.Registers.{Registers}
-use Rattle.event_table.specs.Rows.{row_of, kind_of, registers_of}
-
--- the words of the valid bitmap, which are no fields, and the last word
-abbrev pub bitmap_low : ℕ
-bitmap_low = 126
-
-abbrev pub bitmap_high : ℕ
-bitmap_high = 127
-
-abbrev pub last_word : ℕ
-last_word = 511
+use Rattle.event_table.specs.Rows.{row_of, kind_of, registers_of, shows_xcr0}
 
 -- a field's word, where it is shown
 abbrev pub given : Field → Bool → ℕ → List (ℕ × ℕ)
 given field is value = if is then (word_number field, value) ∷ [] else []
-
--- XCR0 is shown with the leaf of the extended state, 0xD (APM volume 3, CPUID)
-abbrev pub shows_xcr0 : Row → ℕ → Bool
-shows_xcr0 r a = r.shows.a && r.shows.xcr && (a % 2 ^ 32 == 0xD)
 
 -- the words that are shown by a row, each with its value, in the order of the page
 abbrev pub shown : Row → Registers → List (ℕ × ℕ)
@@ -52,10 +40,6 @@ abbrev pub stored : Row → Registers → List (ℕ × ℕ)
 stored r s =
     (bitmap_low, 0) ∷ (bitmap_high, 0) ∷ shown r s
     ++ ((bitmap_low, (bitmap_of (shown r s)).low) ∷ (bitmap_high, (bitmap_of (shown r s)).high) ∷ (last_word, word_with 1 0) ∷ [])
-
--- the address of a vCPU's page
-abbrev pub ghcb_of : ℕ → ℕ
-ghcb_of vcpu = 0x80000000 + 0x1000 * vcpu
 
 abbrev pub store : ℕ × ℕ → Item
 store w = Store w.0 w.1

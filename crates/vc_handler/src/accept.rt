@@ -6,10 +6,9 @@ ghost use Rattle.exit_info.specs.Inject.{request_of};
 ghost use Rattle.vc_handler.specs.Room.{room_of};
 ghost use Rattle.vc_handler.specs.Accept as accepting;
 
-use crate::wire::{BITMAP_HIGH, BITMAP_LOW};
 use event_table::{Bytes, Outcome, Reason, Reply, Results, Values};
 use exit_info::Inject;
-use ghcb_layout::{Bitmap, Field, bit_of, word_of};
+use ghcb_layout::{BITMAP_HIGH, BITMAP_LOW, Bitmap, Field, bit_of, word_of};
 use page_words::{Page, Word};
 
 /// Loads a word by its number, where it is asked for, and else gives 0.

@@ -3,16 +3,18 @@ ghost use Rattle.std.specs.Prelude.{◌≡◌, [], ◌∷◌, IfOk, IfSome};
 ghost use Rattle.page_words.specs.Told.{HasRoom, Makes};
 ghost use Rattle.page_words.specs.Programs.{Reads};
 ghost use Rattle.page_words.specs.declared.item.Item.TheVariants.{Exit};
+ghost use Rattle.ghcb_layout.specs.Address as pages;
 ghost use Rattle.event_table.specs.Lawful.{IsLawful, IsLawfulAccess};
 ghost use Rattle.event_table.specs.Places.{vcpu};
 ghost use Rattle.vc_handler.specs.Accept.{accepting};
 ghost use Rattle.vc_handler.specs.Begin.{begun};
 ghost use Rattle.vc_handler.specs.Version.{Negotiates, farewell, question};
-ghost use Rattle.vc_handler.specs.Wire.{ghcb_of, wire};
+ghost use Rattle.vc_handler.specs.Wire.{wire};
 
 use crate::accept::take_reply;
 use crate::wire::show_event;
 use event_table::{Access, Event, Outcome, Reason, kind_of, named, registers_of, row_of};
+use ghcb_layout::ghcb_of;
 use image_file::Ram;
 use insn_decode::decode;
 use msr_protocol::{MsrWord, write};
@@ -62,9 +64,9 @@ impl Vc {
 
     /// The address of the vCPU's page.
     pub fn ghcb(&self) -> u64
-        ensures address { result ≡ ghcb_of self.now }
+        ensures address { result ≡ pages.ghcb_of self.now }
     {
-        0x8000_0000 + 0x1000 * u64::from(self.vcpu)
+        ghcb_of(self.vcpu)
     }
 
     /// The event for which #VC was raised with this code: what the instruction at RIP, which is decoded

@@ -1,22 +1,15 @@
 // How the words of an event are shown.
-ghost use Rattle.std.specs.Prelude.{◌≡◌, ◌<◌, ◌≤◌, ◌+◌, ◌%◌, ◌^◌, map, [], ◌∷◌, ◌++◌, if◌then◌else◌};
+ghost use Rattle.std.specs.Prelude.{◌≡◌, ◌<◌, ◌≤◌, ◌+◌, map, [], ◌∷◌, ◌++◌};
 ghost use Rattle.page_words.specs.Told.{Makes};
 ghost use Rattle.page_words.specs.declared.item.Item.TheVariants.{Exit};
-ghost use Rattle.ghcb_layout.specs.Field.{word_number};
 ghost use Rattle.vc_handler.specs.Room.{room_of};
 ghost use Rattle.vc_handler.specs.Wire.{bitmap_of as bits_of_words, given, shown, store as store_item, stored};
 
 use event_table::{Registers, Row};
-use ghcb_layout::{Bitmap, Field, bit_of, protocol_word, word_of};
+use ghcb_layout::{
+    BITMAP_HIGH, BITMAP_LOW, Bitmap, Field, LAST_WORD, bit_if, protocol_word, word_of,
+};
 use page_words::{Page, Word};
-
-/// The words of the valid bitmap.
-pub const BITMAP_LOW: u16 = 126;
-
-pub const BITMAP_HIGH: u16 = 127;
-
-/// The word of the protocol version and the usage.
-const LAST: u16 = 511;
 
 /// Stores a word by its number.
 fn store<P: Page>(page: &mut P, number: u16, value: u64)
@@ -39,20 +32,6 @@ fn show_if<P: Page>(page: &mut P, field: Field, is: bool, value: u64)
     }
 }
 
-/// Whether XCR0 is shown: with the leaf of the extended state.
-fn shows_xcr0(row: &Row, a: u64) -> bool
-    ensures value { result ≡ Rattle.vc_handler.specs.Wire.shows_xcr0 row.now a }
-{
-    row.shows.a && row.shows.xcr && a & 0xFFFF_FFFF == 0xD
-}
-
-/// A field's bit in its word of the valid bitmap, where it is shown, and else 0.
-fn bit_if(field: Field, is: bool) -> u64
-    ensures value { result ≡ (if is then 2 ^ (word_number field % 64) else 0) }
-{
-    if is { 1 << (bit_of(field) % 64) } else { 0 }
-}
-
 /// The valid bitmap of the words that are shown.
 fn bitmap_of(row: &Row, registers: &Registers) -> Bitmap
     ensures value { result ≡ bits_of_words (shown row.now registers.now) }
@@ -62,7 +41,7 @@ fn bitmap_of(row: &Row, registers: &Registers) -> Bitmap
     let infos = bit_if(Field::ExitCode, true)
         + bit_if(Field::ExitInfo1, true)
         + bit_if(Field::ExitInfo2, true);
-    let xcr0 = bit_if(Field::Xcr0, shows_xcr0(row, registers.a));
+    let xcr0 = bit_if(Field::Xcr0, row.shows_xcr0(registers.a));
     Bitmap {
         low,
         high: registers_shown + infos + xcr0,
@@ -75,7 +54,7 @@ fn show_row<P: Page>(page: &mut P, row: &Row, registers: &Registers)
     ensures makes { Makes (P.told page.old) (map store_item (shown row.now registers.now)) (P.told page.new) }
     ensures room { room_of (P.told page.old) ≤ room_of (P.told page.new) + 8 }
 {
-    let xcr = shows_xcr0(row, registers.a);
+    let xcr = row.shows_xcr0(registers.a);
     show_if(page, Field::Cpl, row.shows.cpl, 0);
     show_if(page, Field::Rax, row.shows.a, registers.a);
     show_if(page, Field::Rcx, row.shows.c, registers.c);
@@ -98,6 +77,6 @@ pub fn show_event<P: Page>(page: &mut P, row: &Row, registers: &Registers, ghcb:
     show_row(page, row, registers);
     store(page, BITMAP_LOW, bitmap.low);
     store(page, BITMAP_HIGH, bitmap.high);
-    store(page, LAST, protocol_word(1, 0));
+    store(page, LAST_WORD, protocol_word(1, 0));
     page.exit(ghcb);
 }

@@ -6,6 +6,8 @@ use Rattle.page_words.specs.declared.item.Item.{Item}
 use Rattle.page_words.specs.declared.item.Item.TheVariants.{Store, Exit, Load, Msr}
 use Rattle.page_words.specs.Programs.{Program, pure, loading, load, Follows, ◌>>=◌}
 use Rattle.ghcb_layout.specs.declared.bitmap.Bitmap.{Bitmap}
+use Rattle.ghcb_layout.specs.Address.{ghcb_of}
+use Rattle.ghcb_layout.specs.Bitmap.{bitmap_low, bitmap_high}
 use Rattle.ghcb_layout.specs.declared.field.Field.{Field}
 use Rattle.ghcb_layout.specs.declared.field.Field.TheVariants.{Cpl, Rax, Rcx, Rdx, Rbx, ExitInfo1, ExitInfo2, Xcr0}
 use Rattle.ghcb_layout.specs.Field.{word_number}
@@ -13,9 +15,9 @@ use Rattle.event_table.specs.declared.event.Event.TheVariants.{One}
 use Rattle.event_table.specs.declared.row.Results.{Results}
 use Rattle.event_table.specs.declared.row.Row.{Row}
 use Rattle.event_table.specs.declared.row.Registers.{Registers}
-use Rattle.event_table.specs.Rows.{row_of, kind_of, registers_of}
+use Rattle.event_table.specs.Rows.{row_of, kind_of, registers_of, shows_xcr0}
 use Rattle.vc_handler.specs.Accept.{load_if, bitmap, values, results_by, results, exception, accepting_by, has_upper, has_all}
-use Rattle.vc_handler.specs.Wire.{bitmap_low, bitmap_high, given, shown, shows_xcr0, stored, store, wire}
+use Rattle.vc_handler.specs.Wire.{given, shown, stored, store, wire}
 use Rattle.vcpu_core.specs.Few.{FewItems}
 
 -- a program makes so many loads at most
@@ -117,6 +119,6 @@ few_made i r s =
 
 pub few_items : FewItems
 few_items i (One access) outcome loads follows =
-    let made : length (wire i (One access)) ≤ 14 = few_made (Rattle.vc_handler.specs.Wire.ghcb_of i) (row_of (kind_of access)) (registers_of access) in
+    let made : length (wire i (One access)) ≤ 14 = few_made (ghcb_of i) (row_of (kind_of access)) (registers_of access) in
     let heard : length loads ≤ 7 = follows_within 7 (accepting_by (row_of (kind_of access)).results) loads outcome (within_reply (row_of (kind_of access)).results) follows in
     omega (arith, made, heard)
