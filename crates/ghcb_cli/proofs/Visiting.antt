@@ -6,7 +6,7 @@ use Rattle.std.proofs.lemmas.Option.{same_Some}
 use Rattle.page_words.specs.Told.{Told, Kept, Makes, keeping, kept_after_all}
 use Rattle.page_words.specs.Dialogue.{Left, Runs, found_in}
 use Rattle.page_words.proofs.Making.{kept-after_all}
-use Rattle.page_words.proofs.Dialogues.{runs_kept}
+use Rattle.page_words.proofs.Dialogues.{runs_kept, found_listen}
 use Rattle.event_table.specs.declared.event.Event.{Event}
 use Rattle.event_table.specs.declared.event.Event.TheVariants.{One}
 use Rattle.event_table.specs.declared.outcome.Outcome.{Outcome}
@@ -29,7 +29,6 @@ use Rattle.vcpu_core.specs.Running.{gone, said, said_at, stopped}
 use Rattle.vcpu_core.specs.Resuming.{landed, resuming, settling}
 use Rattle.vcpu_core.proofs.Going.{IsOver, results_over}
 use Rattle.vcpu_core.proofs.Raising.{raised_over}
-use Rattle.vcpu_core.proofs.Settling.{found_listen}
 use Rattle.ghcb_cli.specs.Plain.{Machine, answered, next_stop, next_devices, single, visit_where}
 use Rattle.ghcb_cli.specs.Standing.{IsAt, IsShown, Tells, stop_then}
 

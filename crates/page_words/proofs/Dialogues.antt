@@ -4,7 +4,7 @@ use Rattle.std.specs.Prelude.{IfSome, if◌then◌else◌, drop, slice_index, op
 use Rattle.page_words.specs.declared.item.Item.{Item}
 use Rattle.page_words.specs.declared.item.Item.TheVariants.{Store, Exit, Load, Msr}
 use Rattle.page_words.specs.Told.{Told, Kept, Makes, GivesAll, after, after_all, kept_after}
-use Rattle.page_words.specs.Programs.{Program, pure, loading, Reads, Follows}
+use Rattle.page_words.specs.Programs.{Program, pure, loading, found, Reads, Follows}
 use Rattle.page_words.specs.Dialogue.{Dialogue, over, saying, asking, hearing, say, listen, ◌>>=◌, Goes, Runs, Opens, Begins_to, values_of, Begins, left_after, Taken, first, taken, found_in}
 use Rattle.page_words.proofs.Making.{makes_then, makes_none}
 
@@ -281,3 +281,9 @@ pub runs_kept : {X : Type 0} (d : Dialogue X) (x : X) (t u : Told) (k : Kept) �
 runs_kept d x t u k kept runs =
     let found = found_goes d runs.items x t k kept runs.makes.gives runs.goes in
     (found.0, ap (λ (w : Told). w.kept) runs.makes.leaves ∙ found.1)
+
+-- a program is read of a page that keeps its words as it stands
+pub found_listen : {X Y : Type 0} (p : Program X) (g : X → Dialogue Y) (k : Kept) → found_in (listen p g) k ≡ found_in (g (found p (λ n. slice_index k.words n))) k
+unfolding listen
+found_listen (pure x) g k = refl
+found_listen (loading n next) g k = found_listen (next (slice_index k.words n)) g k

@@ -1,10 +1,9 @@
 -- What a vCPU comes to once it has heard the host.
 use Rattle.std.proofs.Common.{◌≡◌, ℕ, [], ◌∷◌, Result, Ok, Err, refl, sym, ap, ◌∙◌, subst}
-use Rattle.std.specs.Prelude.{slice_index}
 use Rattle.page_words.specs.declared.item.Item.TheVariants.{Exit}
-use Rattle.page_words.specs.Told.{Told, Kept, Makes}
-use Rattle.page_words.specs.Programs.{Program, pure, loading, found, Reads}
-use Rattle.page_words.specs.Dialogue.{Dialogue, Runs, found_in, listen, over}
+use Rattle.page_words.specs.Told.{Told, Makes}
+use Rattle.page_words.specs.Programs.{Reads}
+use Rattle.page_words.specs.Dialogue.{Runs, over}
 use Rattle.page_words.proofs.Dialogues.{runs_over, runs_say, runs_hear, runs_listen}
 use Rattle.image_file.specs.Image.{Contents}
 use Rattle.event_table.specs.declared.end.End.{End}
@@ -59,12 +58,6 @@ lands i steps count r v s t is counts = subst (λ (x : State). Runs (over (lande
 pub takes : (image : Contents) (i : ℕ) (c : Counted) (event : Event) (outcome : Outcome) (s : State) (t u v : Told) → Reads (accepting event) outcome t u → Runs (settling image i c outcome) s u v →
     Runs (resuming_by (phase.Waits event) image i c) s t v
 takes image i c event outcome s t u v reads runs = runs_listen (accepting event) (λ o. settling image i c o) outcome s t u v reads runs
-
--- a program is read of a page that keeps its words as it stands
-pub found_listen : {X Y : Type 0} (p : Program X) (g : X → Dialogue Y) (k : Kept) → found_in (listen p g) k ≡ found_in (g (found p (λ n. slice_index k.words n))) k
-unfolding listen
-found_listen (pure x) g k = refl
-found_listen (loading n next) g k = found_listen (next (slice_index k.words n)) g k
 
 -- an outcome that ends the communication
 pub settles_so : (image : Contents) (i : ℕ) (c : Counted) (outcome : Outcome) (reason : Reason) (stands : Phase) (t u : Told) → outcome ≡ Terminate reason → stands ≡ phase.Ended (Terminated reason) →
