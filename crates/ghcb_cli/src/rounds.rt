@@ -87,18 +87,39 @@ fn have_ended(seats: &[Seat]) -> bool
     seats.iter().all(|s| s.vcpu.end().is_some())
 }
 
+// The steps that each vCPU has counted.
+fn steps_of(alloc: Global, seats: &[Seat]) -> Result<Vec<u64>, OutOfMemory>
+    ensures { IfOk result (λ steps. steps.items ≡ map (λ s. s.vcpu.cpu.steps) seats.now) }
+{
+    let mut steps = Vec::new(alloc);
+    for seat in seats {
+        steps.push(seat.vcpu.steps())?;
+    }
+    Ok(steps)
+}
+
+// How each vCPU has ended: one that hasn't is out of steps.
+fn ends_of(alloc: Global, seats: &[Seat]) -> Result<Vec<End>, OutOfMemory>
+    ensures { IfOk result (λ ends. ends.items ≡ map (λ s. unwrap_or (end_in s.vcpu.phase) spent) seats.now) }
+{
+    let mut ends = Vec::new(alloc);
+    for seat in seats {
+        ends.push(seat.vcpu.end().unwrap_or(End::Spent))?;
+    }
+    Ok(ends)
+}
+
 // What is handed back of the vCPUs.
 fn finish(alloc: Global, seats: &[Seat], order: Vec<Turn>) -> Result<Finished, OutOfMemory>
     ensures order { IfOk result (λ f. f.order.items ≡ order.items) }
     ensures steps { IfOk result (λ f. f.steps.items ≡ map (λ s. s.vcpu.cpu.steps) seats.now) }
     ensures ends { IfOk result (λ f. f.ends.items ≡ map (λ s. unwrap_or (end_in s.vcpu.phase) spent) seats.now) }
 {
-    let steps = seats.iter().map(|s| s.vcpu.steps()).collect(alloc)?;
-    let ends = seats
-        .iter()
-        .map(|s| s.vcpu.end().unwrap_or(End::Spent))
-        .collect(alloc)?;
-    Ok(Finished { order, steps, ends })
+    Ok(Finished {
+        order,
+        steps: steps_of(alloc, seats)?,
+        ends: ends_of(alloc, seats)?,
+    })
 }
 
 /// Starts the host and runs each vCPU of the image over its page and the host, in rounds, to its end:

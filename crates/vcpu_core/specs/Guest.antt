@@ -1,11 +1,11 @@
 -- What the values of the guest's code mean.
-use Rattle.std.specs.Prelude.{ℕ, ◌+◌, ◌<◌, Result, Ok, Err}
+use Rattle.std.specs.Prelude.{◌≡◌, ℕ, ◌+◌, ◌<◌, Result, Ok, Err}
 use Rattle.x86_base.specs.declared.insn.Insn.{Insn}
 use Rattle.event_table.specs.declared.end.End.{End}
 use Rattle.event_table.specs.Lawful.{IsLawful, IsLawfulAccess}
 use Rattle.event_table.specs.Places.{Vcpu, vcpu}
 use Rattle.event_table.specs.Plan.{Stepped, Moved, Exits, Stops, setting, stepped}
-use Rattle.guest_interp.specs.Stepping.{Counted, at_count, counted, plan_of, Standstill, Waits, Ended}
+use Rattle.guest_interp.specs.Stepping.{Counted, at_count, counted, plan_of, insn_at, Standstill, Waits, Ended}
 use Rattle.vcpu_core.specs.declared.phase.Phase.{Phase}
 use Rattle.vcpu_core.specs.declared.phase.Phase.TheVariants as phase
 use Rattle.vcpu_core.specs.declared.guest.Guest.{Guest}
@@ -61,6 +61,25 @@ IsLawfulStep _ = Unit {0}
 abbrev pub IsLawfulStop : Stop → ℕ → ℕ → Type 0
 IsLawfulStop (stops.Waits event) steps budget = IsLawful event × (steps < budget)
 IsLawfulStop (stops.Ends end) steps budget = Unit {0}
+
+-- where an access is asked, nothing has changed
+abbrev pub IsStill : Step → Vcpu → Vcpu → Type 0
+IsStill (step.Asks access) old new = new ≡ old
+IsStill _ old new = Unit {0}
+
+-- the instruction at RIP
+abbrev pub IsAt : Insn → Vcpu → Type 0
+IsAt insn v = Ok insn ≡ insn_at v.ram v.regs.rip
+
+-- where an access is asked, this instruction asks it
+abbrev pub IsAskedBy : Step → Insn → Vcpu → Type 0
+IsAskedBy (step.Asks access) insn v = IsAt insn v
+IsAskedBy _ insn v = Unit {0}
+
+-- and where it waits for an event
+abbrev pub IsWaitedBy : Stop → Insn → Vcpu → Type 0
+IsWaitedBy (stops.Waits event) insn v = IsAt insn v
+IsWaitedBy (stops.Ends end) insn v = Unit {0}
 
 -- where it stands once its access is answered
 abbrev pub phase_placed : {A : Type 0} → Result A End → Phase

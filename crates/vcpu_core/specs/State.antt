@@ -1,12 +1,13 @@
 -- A vCPU between two calls.
-use Rattle.std.specs.Prelude.{ℕ, ◌-◌, ◌^◌, ◌<◌, Bool, true, false, Option, Some, None}
+use Rattle.std.specs.Prelude.{ℕ, ◌-◌, ◌^◌, ◌<◌, Bool, true, false, Option, Some, None, Ok, ◌≡◌}
 use Rattle.image_file.specs.Image.{Contents}
 use Rattle.event_table.specs.declared.end.End.{End}
 use Rattle.event_table.specs.Lawful.{IsLawful, count_of}
 use Rattle.event_table.specs.Opening.{opened}
-use Rattle.guest_interp.specs.Stepping.{Counted, at_count}
+use Rattle.guest_interp.specs.Stepping.{Counted, at_count, insn_at}
+use Rattle.x86_base.specs.declared.insn.Insn.{Insn}
 use Rattle.vcpu_core.specs.declared.phase.Phase.{Phase}
-use Rattle.vcpu_core.specs.declared.phase.Phase.TheVariants.{New, Asked, Going, Waits, Ended}
+use Rattle.vcpu_core.specs.declared.phase.Phase.TheVariants.{Asked, Waits, Ended}
 
 -- its number, the plain vCPU with its counted steps, and where it stands
 pub record State : Type 0 where
@@ -41,6 +42,11 @@ pending_in _ = 0
 abbrev pub IsLawfulPhase : Phase → Type 0
 IsLawfulPhase (Waits event) = IsLawful event
 IsLawfulPhase _ = Unit {0}
+
+-- its instruction is the one at RIP
+abbrev pub IsThere : Phase → Insn → Counted → Type 0
+IsThere (Waits event) insn c = Ok insn ≡ insn_at c.vcpu.ram c.vcpu.regs.rip
+IsThere _ insn c = Unit {0}
 
 -- and a step is left for it
 abbrev pub IsKept : Phase → ℕ → Type 0

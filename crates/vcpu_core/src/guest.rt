@@ -7,13 +7,12 @@ ghost use Rattle.event_table.specs.Opening.{opened};
 ghost use Rattle.event_table.specs.Plan.{end_of as end_by};
 ghost use Rattle.guest_interp.specs.Stepping.{at_count, counted, next_within, results_of, step_of};
 ghost use Rattle.vcpu_core.specs.declared.guest.Step.TheVariants as stepped;
-ghost use Rattle.vcpu_core.specs.Guest.{plain, vcpu_in, stepped_by, as_stepped, steps_then, as_placed, steps_placed, as_stop, IsLawfulStep, IsLawfulStop};
+ghost use Rattle.vcpu_core.specs.Guest.{plain, vcpu_in, stepped_by, as_stepped, steps_then, as_placed, steps_placed, as_stop, IsLawfulStep, IsLawfulStop, IsStill, IsAt, IsAskedBy, IsWaitedBy};
 ghost use Rattle.vcpu_core.specs.Resuming.{IsRaisable, raised};
 
 use event_table::{Access, End, Event, Values, comes_later, is_event, named, place, raise};
 use guest_interp::{Next, fetch_into, step};
 use image_file::{Image, Ram};
-use insn_decode::NOP;
 use x86_base::{Flags, Insn, Reg, Regs, Stop as Stopped};
 
 /// The registers and the RAM of a vCPU, and the steps that it has counted.
@@ -92,16 +91,19 @@ impl Guest {
         ensures value { as_stepped result (vcpu_in self.new) ≡ stepped_by insn.now (vcpu_in self.old) }
         ensures counted { self.new.steps ≡ steps_then result self.old.steps }
         ensures lawful { IsLawfulStep result }
+        ensures still { IsStill result (vcpu_in self.old) (vcpu_in self.new) }
     {
+        if is_event(insn)
+            && let Some(access) = named(&self.regs, &self.ram, insn)
+        {
+            return Step::Asks(access);
+        }
         match step(&mut self.regs, &mut self.ram, insn) {
             Next::Went => {
                 self.steps += 1;
                 Step::Goes
             }
-            Next::Vc(_) => match named(&self.regs, &self.ram, insn) {
-                Some(access) => Step::Asks(access),
-                None => unreachable!(),
-            },
+            Next::Vc(_) => unreachable!(),
             Next::Ended(stop) => self.ends(end_of(stop)),
         }
     }
@@ -112,6 +114,7 @@ impl Guest {
         ensures value { as_stepped result (vcpu_in self.new) ≡ step_of (vcpu_in self.old) }
         ensures counted { self.new.steps ≡ steps_then result self.old.steps }
         ensures lawful { IsLawfulStep result }
+        ensures asked { IsAskedBy result insn.new (vcpu_in self.new) }
     {
         if let Err(end) = fetch_into(&self.regs, &self.ram, insn) {
             return self.ends(end);
@@ -122,21 +125,18 @@ impl Guest {
         self.execute(insn)
     }
 
-    /// Puts the results of the access that its instruction asks in their places, which is one step; or
-    /// how it ends where it asks none, with nothing changed.
-    pub fn land(&mut self, values: &Values) -> Result<(), End>
+    /// Puts the results of the access that the instruction at RIP asks in their places, which is one
+    /// step; or how it ends where it asks none, with nothing changed.
+    pub fn land(&mut self, insn: &Insn, values: &Values) -> Result<(), End>
         requires counts { self.old.steps < u64.MAX }
+        requires there { IsAt insn.now (vcpu_in self.old) }
         ensures value { as_placed result (vcpu_in self.new) ≡ results_of values.now (vcpu_in self.old) }
         ensures counted { self.new.steps ≡ steps_placed result self.old.steps }
     {
-        let mut insn = NOP;
-        if let Err(_) = fetch_into(&self.regs, &self.ram, &mut insn) {
+        if !is_event(insn) {
             return Err(End::Undecoded);
         }
-        if !is_event(&insn) {
-            return Err(End::Undecoded);
-        }
-        place(&mut self.regs, &mut self.ram, &insn, values);
+        place(&mut self.regs, &mut self.ram, insn, values);
         self.steps += 1;
         Ok(())
     }
@@ -156,14 +156,15 @@ impl Guest {
         Ok(())
     }
 
-    /// Goes on until it asks for an access or has ended, within its budget of steps.
-    pub fn next(&mut self, budget: u64) -> Stop
+    /// Goes on until it asks for an access or has ended, within its budget of steps. Where it asks, the
+    /// instruction that does is in its place.
+    pub fn next(&mut self, insn: &mut Insn, budget: u64) -> Stop
         ensures value { as_stop result (plain self.new) ≡ next_within budget (plain self.old) }
         ensures lawful { IsLawfulStop result self.new.steps budget }
+        ensures waited { IsWaitedBy result insn.new (vcpu_in self.new) }
     {
-        let mut insn = NOP;
         while self.steps < budget {
-            match self.step_once(&mut insn) {
+            match self.step_once(insn) {
                 Step::Goes => {}
                 Step::Asks(access) => return Stop::Waits(Event::One(access)),
                 Step::Ends(end) => return Stop::Ends(end),

@@ -13,9 +13,10 @@ use crate::phase::Phase;
 use crate::turning::{go_on, hear};
 use event_table::End;
 use image_file::{Image, Ram};
+use insn_decode::NOP;
 use page_words::Page;
 use std::marker::Model;
-use x86_base::Regs;
+use x86_base::{Insn, Regs};
 
 /// What comes of going on: the vCPU stands at an exit, or has ended.
 #[derive(Clone, Copy, Debug, PartialEq, Eq)]
@@ -30,17 +31,19 @@ pub struct Vcpu {
     number: u16,
     guest: Guest,
     phase: Phase,
+    // Where it waits for an event, the instruction that asks it.
+    insn: Insn,
 }
 
 impl Model for Vcpu {
-    ghost use Rattle.vcpu_core.specs.State.{State, IsKept, state};
+    ghost use Rattle.vcpu_core.specs.State.{State, IsKept, IsThere, state};
     ghost use Rattle.vcpu_core.specs.Guest.{plain};
 
     ghost Value = { State };
 
     ghost view = { λ v. state v.number (plain v.guest) v.phase };
 
-    ghost invariant = { λ v. IsKept v.phase v.guest.steps };
+    ghost invariant = { λ v. IsKept v.phase v.guest.steps × IsThere v.phase v.insn (plain v.guest) };
 }
 
 impl Vcpu {
@@ -53,6 +56,7 @@ impl Vcpu {
             number: vcpu,
             guest: Guest::start(image, vcpu, ram),
             phase: Phase::New,
+            insn: NOP,
         }
     }
 
@@ -110,7 +114,14 @@ impl Vcpu {
         ensures lawful { IsLawfulPhase self.new.phase }
         ensures number { self.new.number ≡ self.old.number }
     {
-        self.phase = go_on(&mut self.guest, self.phase, self.number, page, budget);
+        self.phase = go_on(
+            &mut self.guest,
+            &mut self.insn,
+            self.phase,
+            self.number,
+            page,
+            budget,
+        );
         match self.phase {
             Phase::Ended(_) => Progress::Ended,
             _ => Progress::Exited,
@@ -126,6 +137,13 @@ impl Vcpu {
         ensures number { self.new.number ≡ self.old.number }
         ensures rests { is_waiting self.new.phase ≡ false }
     {
-        self.phase = hear(&mut self.guest, self.phase, self.number, image, page);
+        self.phase = hear(
+            &mut self.guest,
+            &self.insn,
+            self.phase,
+            self.number,
+            image,
+            page,
+        );
     }
 }
