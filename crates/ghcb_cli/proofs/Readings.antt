@@ -7,7 +7,7 @@ use Rattle.show_text.specs.Digits.{word_of_digits, page_of_digits}
 use Rattle.show_text.specs.Page.{page_text}
 use Rattle.ghcb_cli.specs.declared.command.Command.{Command}
 use Rattle.ghcb_cli.specs.declared.command.Command.TheVariants.{Run, Hostile, ShowPage, ShowMsr, ShowInfo}
-use Rattle.ghcb_cli.specs.Command.{command_of, decimal_of, hostile_of, most_hostile_steps, most_steps, reading_by, run_by, run_of, show_info, show_msr, show_of, show_page, word_at}
+use Rattle.ghcb_cli.specs.Command.{command_of, decimal_of, hostile_of, most_hostile_steps, most_steps, reading_by, run_of, show_info, show_msr, show_of, show_page, word_at}
 
 no_digits : (page info msr : Bool) (p : Option Kept) (w : Option ℕ) →
     (if page then option_map show_page p else if msr then option_map show_msr w else if info then option_map show_info w else None) ≡ Some ShowPage → option_map page_text p ≡ None → ⊥

@@ -122,55 +122,59 @@ fn told_of<R: Threads + Sync>(
     Ok((status, refused, out.written() == line))
 }
 
+/// An offset in an image's file and the byte that is put there, the file's length, and what is told.
+type Broken<'a> = (usize, u8, usize, Refused, &'a [u8]);
+
+const BROKEN: [Broken; 7] = [
+    (
+        0,
+        0x48,
+        73,
+        Refused::Image(ImageFault::BadMagic),
+        b"refused image 2\n",
+    ),
+    (
+        0,
+        0x47,
+        63,
+        Refused::Image(ImageFault::Truncated),
+        b"refused image 1\n",
+    ),
+    (
+        8,
+        0,
+        73,
+        Refused::Image(ImageFault::BadCount),
+        b"refused image 3\n",
+    ),
+    (
+        12,
+        1,
+        73,
+        Refused::Image(ImageFault::BadRam),
+        b"refused image 4\n",
+    ),
+    (
+        0,
+        0x47,
+        72,
+        Refused::Image(ImageFault::Truncated),
+        b"refused image 1\n",
+    ),
+    (
+        0,
+        0x47,
+        74,
+        Refused::Image(ImageFault::TooLong),
+        b"refused image 11\n",
+    ),
+    (8, 2, 73, Refused::NotYet, b"refused not-yet\n"),
+];
+
 #[test]
 fn images_that_break_a_rule_are_refused(rt: HostRuntime) -> Result<(), Fail> {
     let alloc = rt.alloc();
-    let rows: [(usize, u8, usize, Refused, &[u8]); 7] = [
-        (
-            0,
-            0x48,
-            73,
-            Refused::Image(ImageFault::BadMagic),
-            b"refused image 2\n",
-        ),
-        (
-            0,
-            0x47,
-            63,
-            Refused::Image(ImageFault::Truncated),
-            b"refused image 1\n",
-        ),
-        (
-            8,
-            0,
-            73,
-            Refused::Image(ImageFault::BadCount),
-            b"refused image 3\n",
-        ),
-        (
-            12,
-            1,
-            73,
-            Refused::Image(ImageFault::BadRam),
-            b"refused image 4\n",
-        ),
-        (
-            0,
-            0x47,
-            72,
-            Refused::Image(ImageFault::Truncated),
-            b"refused image 1\n",
-        ),
-        (
-            0,
-            0x47,
-            74,
-            Refused::Image(ImageFault::TooLong),
-            b"refused image 11\n",
-        ),
-        (8, 2, 73, Refused::NotYet, b"refused not-yet\n"),
-    ];
-    for (at, byte, len, refused, line) in rows {
+    for (at, byte, len, refused, line) in BROKEN {
         let mut image = image_file(alloc, &HELLO)?;
         if let Some(slot) = image.get_mut(at) {
             *slot = byte;
@@ -208,38 +212,39 @@ fn code_that_is_no_instruction_ends_the_vcpu_at_no_steps(rt: HostRuntime) -> Res
 /// A guest, and what its run is to leave with 100 steps at most: the output, the steps and the end.
 type Row<'a> = (&'a [u8], &'a [u8], u64, End);
 
+const ENDINGS: [Row; 5] = [
+    // XOR EAX, EAX; MOV ECX, 3; ADD EAX, ECX; DEC ECX; JNE -6; ADD EAX, 3Ch; MOV EDX, 3F8h; OUT DX, AL; HLT
+    (
+        &[
+            0x31, 0xC0, 0xB9, 3, 0, 0, 0, 0x01, 0xC8, 0xFF, 0xC9, 0x75, 0xFA, 0x83, 0xC0, 0x3C,
+            0xBA, 0xF8, 3, 0, 0, 0xEE, 0xF4,
+        ],
+        b"B",
+        15,
+        End::Halted,
+    ),
+    // MOV RAX, 1122334455667788h; MOV EDX, 3F8h; OUT DX, AL; HLT
+    (
+        &[
+            0x48, 0xB8, 0x88, 0x77, 0x66, 0x55, 0x44, 0x33, 0x22, 0x11, 0xBA, 0xF8, 3, 0, 0, 0xEE,
+            0xF4,
+        ],
+        b"\x88",
+        4,
+        End::Halted,
+    ),
+    // MOV EAX, without two bytes of its number
+    (&[0xB8, 1], b"", 0, End::BadAddress(2)),
+    // JMP to itself
+    (&[0xEB, 0xFE], b"", 100, End::Spent),
+    // NOP; INSB, which isn't shown to a host yet
+    (&[0x90, 0x6C], b"", 1, End::Undecoded),
+];
+
 #[test]
 fn guests_run_to_their_ends(rt: HostRuntime) -> Result<(), Fail> {
     let alloc = rt.alloc();
-    let rows: [Row; 5] = [
-        // XOR EAX, EAX; MOV ECX, 3; ADD EAX, ECX; DEC ECX; JNE -6; ADD EAX, 3Ch; MOV EDX, 3F8h; OUT DX, AL; HLT
-        (
-            &[
-                0x31, 0xC0, 0xB9, 3, 0, 0, 0, 0x01, 0xC8, 0xFF, 0xC9, 0x75, 0xFA, 0x83, 0xC0, 0x3C,
-                0xBA, 0xF8, 3, 0, 0, 0xEE, 0xF4,
-            ],
-            b"B",
-            15,
-            End::Halted,
-        ),
-        // MOV RAX, 1122334455667788h; MOV EDX, 3F8h; OUT DX, AL; HLT
-        (
-            &[
-                0x48, 0xB8, 0x88, 0x77, 0x66, 0x55, 0x44, 0x33, 0x22, 0x11, 0xBA, 0xF8, 3, 0, 0,
-                0xEE, 0xF4,
-            ],
-            b"\x88",
-            4,
-            End::Halted,
-        ),
-        // MOV EAX, without two bytes of its number
-        (&[0xB8, 1], b"", 0, End::BadAddress(2)),
-        // JMP to itself
-        (&[0xEB, 0xFE], b"", 100, End::Spent),
-        // NOP; INSB, which isn't shown to a host yet
-        (&[0x90, 0x6C], b"", 1, End::Undecoded),
-    ];
-    for (code, output, steps, end) in rows {
+    for (code, output, steps, end) in ENDINGS {
         let words = words_of(alloc, &["run", "image", "input", "100"])?;
         let mut files = folder(alloc, code)?;
         let mut out = MemSink::new(alloc, 1)?;
@@ -748,6 +753,12 @@ fn readings_are_shown(rt: HostRuntime) -> Result<(), Fail> {
         assert_eq!(rt; says(&rt, alloc, words, &mut files, &mut out)?, (0, None));
         assert_eq!(rt; out.written(), text);
     }
+    Ok(())
+}
+
+#[test]
+fn readings_of_another_form_are_a_faulty_command_line(rt: HostRuntime) -> Result<(), Fail> {
+    let alloc = rt.alloc();
     for words in [
         ["show", "msr", "000000000001010"],
         ["show", "page", "00"],

@@ -228,21 +228,8 @@ fn each_condition_jumps_sets_and_moves(rt: HostRuntime) -> Result<(), Fail> {
             ];
             let gone = run(rt.alloc(), &code, 100, word)?;
             let want = u64::from(holds(condition, word));
-            assert_eq!(rt;
-                gone.regs.get(Reg::Rbx),
-                want,
-                "condition {condition} word {word:x}"
-            );
-            assert_eq!(rt;
-                gone.regs.get(Reg::Rcx),
-                want,
-                "condition {condition} word {word:x}"
-            );
-            assert_eq!(rt;
-                gone.regs.get(Reg::Rdx),
-                want,
-                "condition {condition} word {word:x}"
-            );
+            let regs = [Reg::Rbx, Reg::Rcx, Reg::Rdx].map(|reg| gone.regs.get(reg));
+            assert_eq!(rt; regs, [want; 3], "condition {condition} word {word:x}");
         }
     }
     Ok(())
@@ -266,6 +253,15 @@ fn flags_are_set_and_cleared(rt: HostRuntime) -> Result<(), Fail> {
         assert_eq!(rt; gone.steps, 1);
     }
     Ok(())
+}
+
+/// An OUT of one byte.
+fn out_byte(port: u16, value: u32) -> Access {
+    Access::Out {
+        port,
+        size: 1,
+        value,
+    }
 }
 
 #[test]
@@ -297,12 +293,7 @@ fn an_out_of_a_byte_exits_with_its_byte_alone(rt: HostRuntime) -> Result<(), Fai
         };
         assert_eq!(rt; next, Next::Vc(0x7B));
         assert_eq!(rt; gone.regs, before);
-        let out = Access::Out {
-            port,
-            size: 1,
-            value: 0x88,
-        };
-        assert_eq!(rt; access, out);
+        assert_eq!(rt; access, out_byte(port, 0x88));
         if named(&gone.regs, &gone.ram, &insn).is_some() {
             place(&mut gone.regs, &mut gone.ram, &insn, &SEVENS);
         }

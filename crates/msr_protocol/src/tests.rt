@@ -1,49 +1,51 @@
 use crate::{BadMsr, MsrWord, read, write};
 
+/// A word for each message, with the message.
+const MESSAGES: [(u64, MsrWord); 11] = [
+    (0x8000_1000, MsrWord::GhcbAddress(0x8000_1000)),
+    (
+        0x0002_0001_3300_0001,
+        MsrWord::SevInfo {
+            max: 2,
+            min: 1,
+            c_bit: 51,
+        },
+    ),
+    (0x002, MsrWord::SevInfoRequest),
+    (
+        0x8000_001F_4000_0004,
+        MsrWord::CpuidRequest {
+            function: 0x8000_001F,
+            register: 1,
+        },
+    ),
+    (
+        0x0000_0240_C000_0005,
+        MsrWord::CpuidResponse {
+            value: 0x240,
+            register: 3,
+        },
+    ),
+    (0x006, MsrWord::ApHoldRequest),
+    (
+        0xFFFF_FFFF_FFFF_F007,
+        MsrWord::ApHoldResponse(0xF_FFFF_FFFF_FFFF),
+    ),
+    (0x080, MsrWord::FeatureRequest),
+    (0x3081, MsrWord::FeatureResponse(3)),
+    (0x1_0100, MsrWord::Terminate { set: 0, code: 1 }),
+    (
+        0xAB_F100,
+        MsrWord::Terminate {
+            set: 15,
+            code: 0xAB,
+        },
+    ),
+];
+
 #[test]
 fn words_of_each_message(rt: HostRuntime) {
-    let cases = [
-        (0x8000_1000, MsrWord::GhcbAddress(0x8000_1000)),
-        (
-            0x0002_0001_3300_0001,
-            MsrWord::SevInfo {
-                max: 2,
-                min: 1,
-                c_bit: 51,
-            },
-        ),
-        (0x002, MsrWord::SevInfoRequest),
-        (
-            0x8000_001F_4000_0004,
-            MsrWord::CpuidRequest {
-                function: 0x8000_001F,
-                register: 1,
-            },
-        ),
-        (
-            0x0000_0240_C000_0005,
-            MsrWord::CpuidResponse {
-                value: 0x240,
-                register: 3,
-            },
-        ),
-        (0x006, MsrWord::ApHoldRequest),
-        (
-            0xFFFF_FFFF_FFFF_F007,
-            MsrWord::ApHoldResponse(0xF_FFFF_FFFF_FFFF),
-        ),
-        (0x080, MsrWord::FeatureRequest),
-        (0x3081, MsrWord::FeatureResponse(3)),
-        (0x1_0100, MsrWord::Terminate { set: 0, code: 1 }),
-        (
-            0xAB_F100,
-            MsrWord::Terminate {
-                set: 15,
-                code: 0xAB,
-            },
-        ),
-    ];
-    for (word, msr) in cases {
+    for (word, msr) in MESSAGES {
         assert_eq!(rt; read(word), Ok(msr));
         if let Ok(message) = read(word) {
             assert_eq!(rt; write(&message), word);

@@ -2,7 +2,7 @@ use crate::{Text, info_text, msr_text, page_from_hex, page_text, word_from_hex};
 use page_words::Words;
 
 #[test]
-fn words_in_print(rt: HostRuntime) {
+fn messages_in_print(rt: HostRuntime) {
     let messages = [
         ("0000000000010100", "terminate set 0 code 1\n"),
         ("0000000000000003", "unknown 003\n"),
@@ -20,6 +20,10 @@ fn words_in_print(rt: HostRuntime) {
         assert!(rt; word.is_some());
         assert_eq!(rt; msr_text(word.unwrap_or(0)).as_bytes(), line.as_bytes());
     }
+}
+
+#[test]
+fn accesses_in_print(rt: HostRuntime) {
     let accesses = [
         (
             "0000000003f80210",
@@ -38,6 +42,10 @@ fn words_in_print(rt: HostRuntime) {
         assert!(rt; word.is_some());
         assert_eq!(rt; info_text(word.unwrap_or(0)).as_bytes(), line.as_bytes());
     }
+}
+
+#[test]
+fn a_word_has_sixteen_digits(rt: HostRuntime) {
     for digits in [
         "",
         "000000000000000",
