@@ -31,7 +31,7 @@ fn seat_of<H: Host>(
     ensures vcpus { (H.told host.new).vcpus ≡ (H.told host.old).vcpus }
 {
     let ram = image.ram(alloc)?;
-    let mut seat = meet(image, number, ram, budget, host)?;
+    let mut seat = meet(image, number, ram, host)?;
     seat.vcpu.run_to_exit(image, &mut seat.page, budget);
     Ok(seat)
 }

@@ -28,7 +28,6 @@ pub fn meet<H: Host>(
     image: &Image,
     number: u16,
     ram: Ram,
-    budget: u64,
     host: &mut H,
 ) -> Result<Seat, OutOfMemory>
     requires opening { ram ≡ opening_ram image.now }
@@ -42,7 +41,8 @@ pub fn meet<H: Host>(
 {
     let mut vcpu = Vcpu::new(image, number, ram);
     let mut page = Words::new();
-    vcpu.run_to_exit(image, &mut page, budget);
+    // It takes no step before it has asked.
+    vcpu.run_to_exit(image, &mut page, 0);
     host.serve(number, &mut page)?;
     vcpu.resume(image, &mut page);
     Ok(Seat { vcpu, page })
