@@ -1,19 +1,15 @@
 -- What a file is, from what was read of it.
-use Rattle.std.proofs.Common.{◌≡◌, ℕ, ◌+◌, ◌<◌, ◌≤◌, Bool, true, false, List, Option, Some, None, Result, Ok, Err, length, take, refl, sym, ap, ◌∙◌, arith}
+use Rattle.std.proofs.Common.{◌≡◌, ℕ, ◌+◌, ◌<◌, ◌≤◌, Bool, true, false, List, Option, Some, None, Result, Ok, Err, length, take, sym, ap, ◌∙◌, arith}
 use Rattle.std.specs.Prelude.{IfSome, nat_lt, option_map, if◌then◌else◌, min}
 use Rattle.std.proofs.lemmas.List.{length-take, take_all}
-use Rattle.std.proofs.lemmas.Option.{same_Some}
 use Rattle.script_file.specs.Lines.{script_of}
 use Rattle.std.proofs.lemmas.Grind.{common_steps}
 use Rattle.ghcb_cli.specs.declared.text.Refused.{Refused}
-use Rattle.ghcb_cli.specs.declared.text.Refused.TheVariants.{ImageLimit, NotYet, InputLimit, ScriptLimit}
+use Rattle.ghcb_cli.specs.declared.text.Refused.TheVariants.{ImageLimit, InputLimit, ScriptLimit}
 use Rattle.image_file.specs.declared.fault.ImageFault.{ImageFault}
 use Rattle.image_file.specs.Image.{Contents, image_of}
-use Rattle.ghcb_cli.specs.Program.{Folder, most_image, most_input, most_script, image_by, image_in, single_by, single_in, input_in, script_by, script_in}
+use Rattle.ghcb_cli.specs.Program.{Folder, most_image, most_input, most_script, image_by, image_in, input_in, script_by, script_in}
 use Rattle.ghcb_cli.specs.Reading.{IsRead}
-use Rattle.ghcb_cli.specs.declared.top.Unready.{Unready}
-use Rattle.ghcb_cli.specs.declared.top.Unready.TheVariants as unready
-use Rattle.ghcb_cli.specs.Unready.{Blames}
 
 -- more than the limit was read, so the file is longer
 longer : (limit : ℕ) (file bytes : List ℕ) → bytes ≡ take (limit + 1) file → limit < length bytes → nat_lt limit (length file) ≡ true
@@ -91,32 +87,3 @@ pub script_read : (folder : Option Folder) (name bytes : List ℕ) (words : Resu
     IfSome folder (λ f. option_map script_in (f name) ≡ Some (script_by words))
 script_read None name bytes words read within is = tt
 script_read (Some f) name bytes words read within is = script_under f name bytes read within ∙ ap (λ (r : Result (List ℕ) ℕ). Some (script_by r)) is
-
--- an image of more than one vCPU
-pub many_refused : (image : Contents) → 1 < image.header.vcpus → single_by (Ok image) ≡ Err NotYet
-many_refused image many =
-    let more : nat_lt 1 image.header.vcpus ≡ true = grind (arith, common_steps) in
-    ap (λ (b : Bool). if b then Err NotYet else Ok image) more
-
--- an image of one
-pub one_taken : (image : Contents) → image.header.vcpus ≤ 1 → single_by (Ok image) ≡ Ok image
-one_taken image one =
-    let no_more : nat_lt 1 image.header.vcpus ≡ false = grind (arith, common_steps) in
-    ap (λ (b : Bool). if b then Err NotYet else Ok image) no_more
-
-single_named : (file : Option (List ℕ)) (made : Result Contents Refused) → option_map image_in file ≡ Some made → option_map single_in file ≡ Some (single_by made)
-single_named None made is = let wrong : None ≡ Some made = is in cc
-single_named (Some bytes) made is = ap (λ (r : Result Contents Refused). Some (single_by r)) (same_Some _ _ is)
-
--- the image of a file, where one vCPU is wanted
-pub single_read : (folder : Option Folder) (name : List ℕ) (made single : Result Contents Refused) → IfSome folder (λ f. option_map image_in (f name) ≡ Some made) → single_by made ≡ single →
-    IfSome folder (λ f. option_map single_in (f name) ≡ Some single)
-single_read None name made single is by = tt
-single_read (Some f) name made single is by = single_named (f name) made is ∙ ap Some by
-
--- why there is no image at all is why there is no single one
-pub single_blames : (u : Unready) (folder : Option Folder) (name : List ℕ) (failed : Type 0) → Blames u (λ r. IfSome folder (λ f. option_map image_in (f name) ≡ Some (Err r))) failed →
-    Blames u (λ r. IfSome folder (λ f. option_map single_in (f name) ≡ Some (Err r))) failed
-single_blames (unready.Refused r) folder name failed blames = single_read folder name (Err r) (Err r) blames refl
-single_blames unready.ReadFault folder name failed blames = blames
-single_blames unready.OutOfMemory folder name failed blames = tt

@@ -39,12 +39,6 @@ numbered_append i k (s ∷ ss) seat all many is =
 pub numbered_push : (k : ℕ) (seats : List Seat) (seat : Seat) → AreNumbered 0 seats → length seats ≡ k → seat.vcpu.number ≡ k → AreNumbered 0 (seats ++ seat ∷ [])
 numbered_push k seats seat all many is = let zeroth : k ≡ 0 + k = omega arith in numbered_append 0 k seats seat all many (is ∙ zeroth)
 
-pub numbered_at : (i : ℕ) (seats : List Seat) (stops : List Standstill) → AreAt i seats stops → AreNumbered i seats
-numbered_at i [] [] all = tt
-numbered_at i (s ∷ ss) (x ∷ xs) all = (all.0, numbered_at (i + 1) ss xs all.2)
-numbered_at i [] (x ∷ xs) all = absurd all
-numbered_at i (s ∷ ss) [] all = absurd all
-
 -- the stop of one seat
 at_get : (i k : ℕ) (seats : List Seat) (stops : List Standstill) (seat : Seat) → AreAt i seats stops → slice_get seats k ≡ Some seat →
     (stop : Standstill) × (slice_get stops k ≡ Some stop) × IsAt seat.vcpu.number seat stop

@@ -148,11 +148,3 @@ visited ends_agree image budget v0 v1 v2 page0 page1 page2 page3 h0 h1 order0 or
       told_on image budget i e v page0 h0 h1 order0 order1 m agrees tells serves
           (pushed ∙ ap (λ (x : State). order0 ++ record { vcpu = i; count = pending_in x.phase } ∷ []) at.is_stopped),
     )
-
--- one that doesn't wait stays
-pub unvisited : (image : Contents) (budget : ℕ) (v : State) (page : Kept) (h : Hosting) (order : List Turn) → is_waiting v.phase ≡ false →
-    (m : Machine) (stop : Standstill) → IsAt v.number (record { vcpu = v; page = page }) stop → Tells h order m →
-    IsAt v.number (record { vcpu = v; page = page }) (stop_then image budget v.number stop m.devices) × Tells h order (visit_where image budget v.number (Some stop) m)
-unvisited image budget v page h order idle m (Ended end c) at tells = (at, tells)
-unvisited image budget v page h order idle m (Waits e c) at tells =
-    let wrong : true ≡ false = ap (λ (x : State). is_waiting x.phase) (sym at.is_stopped) ∙ idle in cc

@@ -45,16 +45,6 @@ turned_ended image budget s next progress old t u first makes goes is ended =
     turned image budget s next old t u u u first makes refl
     (subst (λ (x : State). Runs (resuming image x) next u u) goes (ended_hears image next.phase next.number next.cpu u (λ exited. ended (is ∙ exited))))
 
-rests_by : (p : Phase) → (progress_in p ≡ Exited → ⊥) → is_waiting p ≡ false
-rests_by phase.New ended = refl
-rests_by phase.Asked ended = absurd (ended refl)
-rests_by phase.Going ended = refl
-rests_by (phase.Waits event) ended = absurd (ended refl)
-rests_by (phase.Ended end) ended = refl
-
-pub ended_rests : (s : State) (progress : Progress) → progress ≡ progress_in s.phase → (progress ≡ Exited → ⊥) → is_waiting s.phase ≡ false
-ended_rests s progress is ended = rests_by s.phase (λ exited. ended (is ∙ exited))
-
 -- only what it says has been said
 pub spoken : (image : Contents) (budget : ℕ) (s : State) (old t u v : Told) → roomless t ≡ roomless old → Makes t (said budget s) u → roomless v ≡ roomless u → Begins_to (turn_of image budget s) (roomless old) (roomless v)
 spoken image budget s old t u v first makes second =

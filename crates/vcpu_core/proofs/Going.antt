@@ -45,11 +45,6 @@ later_at _ i v port later is = cc
 pub later_ends : (v : Vcpu) (i : Insn) → comes_later i ≡ true → Stops Undecoded v ≡ stepped_by i v
 later_ends v i later = later_at i.op i v (number (map (read v) (port_at i.op i ∷ [])) 0) later refl
 
--- where no instruction asks an access, none is answered
-pub none_answered : (v : Vcpu) (values : Values) (end : End) → Err end ≡ insn_at v.ram v.regs.rip → Stops Undecoded v ≡ results_of values v
-unfolding results_of
-none_answered v values end is = ap (λ (r : Result Insn End). placed values v (exit_by r v)) is
-
 -- an instruction there goes on with the results of its access
 pub one_answered : (v : Vcpu) (values : Values) (i : Insn) → Ok i ≡ insn_at v.ram v.regs.rip → placed values v (exit_of i (setting v i.len)) ≡ results_of values v
 unfolding results_of

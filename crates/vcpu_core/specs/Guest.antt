@@ -85,8 +85,3 @@ IsWaitedBy (stops.Ends end) insn v = Unit {0}
 abbrev pub phase_placed : {A : Type 0} → Result A End → Phase
 phase_placed (Ok _) = phase.Going
 phase_placed (Err end) = phase.Ended end
-
--- where it stands at a stop
-abbrev pub phase_at : Stop → Phase
-phase_at (stops.Waits event) = phase.Waits event
-phase_at (stops.Ends end) = phase.Ended end
