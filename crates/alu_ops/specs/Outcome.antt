@@ -6,8 +6,8 @@ use Rattle.x86_base.specs.FlagsWord.{bit_at}
 use Rattle.alu_ops.specs.declared.outcome.Outcome.{Outcome}
 use Rattle.alu_ops.specs.Number.{signed, modulo, is_out_of_range, top_bit, is_even_parity, differ}
 
-abbrev pub sum_of : ℕ → ℕ → ℕ → ℕ → Outcome
-sum_of n a b c = record {
+abbrev pub outcome_of_sum : ℕ → ℕ → ℕ → ℕ → Outcome
+outcome_of_sum n a b c = record {
   value = modulo n (pos a +ℤ pos b +ℤ pos c);
   carry = nat_le (2 ^ n) (a + b + c);
   overflow = is_out_of_range n (signed n a +ℤ signed n b +ℤ pos c);
@@ -29,8 +29,8 @@ abbrev pub plain_of : ℕ → Outcome
 plain_of value = record { value = value; carry = false; overflow = false }
 
 -- the count of a shift
-abbrev pub count_of : ℕ → ℕ → ℕ
-count_of n b = b % (if n == 64 then 64 else 32)
+abbrev pub shift_count_of : ℕ → ℕ → ℕ
+shift_count_of n b = b % (if n == 64 then 64 else 32)
 
 -- past the width the carry is 0; the overflow is that of a count of 1
 abbrev pub shl_of : ℕ → ℕ → ℕ → Outcome

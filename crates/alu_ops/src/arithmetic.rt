@@ -1,11 +1,18 @@
-//! Sums, differences, products and complements.
-
+// Sums, differences, products and complements.
 ghost use Rattle.std.specs.Prelude.{◌≡◌, ◌-◌, ◌^◌, ◌<◌, ◌≤◌};
-ghost use Rattle.alu_ops.specs.Number.{IsWidth};
-ghost use Rattle.alu_ops.specs.Outcome.{sum_of, difference_of, product_of};
+ghost use Rattle.alu_ops.specs.Number.{IsWidth, differ, top_bit};
+ghost use Rattle.alu_ops.specs.Outcome.{outcome_of_sum, difference_of, product_of};
 
-use crate::number::{half, is_out_of_range, to_signed, wrapped};
+use crate::number::{half, is_out_of_range, is_top_set, to_signed, wrapped};
 use crate::outcome::Outcome;
+
+/// Whether the sign of a number isn't that of another.
+fn has_other_sign<const BITS: u32>(a: u64, b: u64) -> bool
+    requires { IsWidth BITS }
+    ensures { result ≡ differ (top_bit BITS a) (top_bit BITS b) }
+{
+    is_top_set::<BITS>(a) != is_top_set::<BITS>(b)
+}
 
 /// The sum of two numbers and a carry of 0 or 1.
 pub fn add<const BITS: u32>(a: u64, b: u64, carry: u64) -> Outcome
@@ -13,15 +20,14 @@ pub fn add<const BITS: u32>(a: u64, b: u64, carry: u64) -> Outcome
     requires left { a < 2 ^ BITS }
     requires right { b < 2 ^ BITS }
     requires carry { carry ≤ 1 }
-    ensures { result ≡ sum_of BITS a b carry }
+    ensures { result ≡ outcome_of_sum BITS a b carry }
 {
     let half = half::<BITS>() as u128;
+    let value = wrapped::<BITS>(a as i128 + b as i128 + carry as i128);
     Outcome {
-        value: wrapped::<BITS>(a as i128 + b as i128 + carry as i128),
+        value,
         carry: half + half <= a as u128 + b as u128 + carry as u128,
-        overflow: is_out_of_range::<BITS>(
-            to_signed::<BITS>(a) + to_signed::<BITS>(b) + carry as i128,
-        ),
+        overflow: !has_other_sign::<BITS>(a, b) & has_other_sign::<BITS>(a, value),
     }
 }
 
@@ -33,12 +39,11 @@ pub fn subtract<const BITS: u32>(a: u64, b: u64, borrow: u64) -> Outcome
     requires borrow { borrow ≤ 1 }
     ensures { result ≡ difference_of BITS a b borrow }
 {
+    let value = wrapped::<BITS>(a as i128 - b as i128 - borrow as i128);
     Outcome {
-        value: wrapped::<BITS>(a as i128 - b as i128 - borrow as i128),
+        value,
         carry: (a as u128) < b as u128 + borrow as u128,
-        overflow: is_out_of_range::<BITS>(
-            to_signed::<BITS>(a) - to_signed::<BITS>(b) - borrow as i128,
-        ),
+        overflow: has_other_sign::<BITS>(a, b) & has_other_sign::<BITS>(a, value),
     }
 }
 

@@ -1,5 +1,3 @@
-//! Conditions of jumps, sets and moves.
-
 ghost use Rattle.std.specs.Prelude.{◌≡◌, ◌<◌};
 ghost use Rattle.alu_ops.specs.Condition.{holds_of};
 

@@ -1,5 +1,4 @@
-//! Numbers of a width, with and without a sign.
-
+// Numbers of a width, with and without a sign.
 ghost use Rattle.std.specs.Prelude.{◌≡◌, ◌+◌, ◌-◌, ◌^◌, ◌<◌, ◌≤◌, unsigned_abs};
 ghost use Rattle.alu_ops.specs.Number.{IsWidth, signed, modulo, is_out_of_range, top_bit};
 ghost use Rattle.x86_base.specs.FlagsWord.{bit_at};

@@ -1,5 +1,3 @@
-//! Operations of the arithmetic and logic unit.
-
 /// An operation of one or two numbers (APM volume 3, chapter 3). `Cmp` gives the difference and
 /// `Test` the conjunction, though their instructions don't write it.
 #[derive(Clone, Copy, Debug, PartialEq, Eq, Hash)]

@@ -1,5 +1,4 @@
-//! Results with the two flags that depend on the operation.
-
+// Results with the two flags that depend on the operation.
 ghost use Rattle.std.specs.Prelude.{◌≡◌};
 ghost use Rattle.alu_ops.specs.Number.{IsWidth};
 

@@ -1,8 +1,6 @@
-//! Shifts.
-
 ghost use Rattle.std.specs.Prelude.{◌≡◌, ◌^◌, ◌<◌};
 ghost use Rattle.alu_ops.specs.Number.{IsWidth};
-ghost use Rattle.alu_ops.specs.Outcome.{count_of, shl_of, shr_of, sar_of};
+ghost use Rattle.alu_ops.specs.Outcome.{shift_count_of, shl_of, shr_of, sar_of};
 
 use crate::number::{half, is_set, is_top_set, to_signed, wrapped};
 use crate::outcome::Outcome;
@@ -10,7 +8,7 @@ use crate::outcome::Outcome;
 /// The count of a shift: a number modulo 64 at width 64, and else modulo 32.
 pub fn shift_count<const BITS: u32>(b: u64) -> u32
     requires { IsWidth BITS }
-    ensures value { result ≡ count_of BITS b }
+    ensures value { result ≡ shift_count_of BITS b }
     ensures below { result < 64 }
 {
     (b % table!(width BITS, 8 => 32, 16 => 32, 32 => 32; 64)) as u32

@@ -1,5 +1,4 @@
-//! The table of operations.
-
+// The table of operations.
 ghost use Rattle.std.specs.Prelude.{◌≡◌, ◌^◌, ◌<◌};
 ghost use Rattle.x86_base.specs.Widths.{bits_of};
 ghost use Rattle.alu_ops.specs.Number.{IsWidth};

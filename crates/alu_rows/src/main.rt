@@ -1,5 +1,5 @@
 //! Answers each line `BITS OP A B FLAGS`, with the numbers and the flags word in hexadecimal digits, by
-//! the result and the flags word after it.
+//! the result and the flags word after it. A line of another form is answered by `bad line`.
 #![tactic(auto)]
 
 mod row;

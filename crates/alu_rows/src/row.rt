@@ -1,8 +1,3 @@
-//! A row of a table of operations.
-
-ghost use Rattle.std.specs.Prelude.{◌≡◌, ◌%◌, ◌^◌};
-ghost use Rattle.x86_base.specs.Widths.{bits_of};
-
 use alu_ops::{AluOp, alu_at};
 use std::fmt;
 use x86_base::{Flags, Width};
@@ -39,8 +34,8 @@ impl Row {
 
     /// What the operation gives for the low bits of the numbers.
     pub fn answer(&self) -> Answer {
-        let a = cut(self.width, self.a);
-        let b = cut(self.width, self.b);
+        let a = self.width.low(self.a);
+        let b = self.width.low(self.b);
         let (value, flags) = alu_at(self.width, self.op, a, b, self.flags);
         Answer { value, flags }
     }
@@ -52,22 +47,12 @@ impl fmt::Display for Answer {
     }
 }
 
-/// The low bits of a number.
-fn cut(width: Width, number: u64) -> u64
-    ensures { result ≡ number % 2 ^ bits_of width }
-{
-    match width {
-        Width::B8 => number % 0x100,
-        Width::B16 => number % 0x1_0000,
-        Width::B32 => number % 0x1_0000_0000,
-        Width::B64 => number,
-    }
-}
-
+/// The number of hexadecimal digits.
 fn number_of(word: &str) -> Option<u64> {
     u64::from_str_radix(word, 16).ok()
 }
 
+/// The width of so many bits.
 fn width_of(word: &str) -> Option<Width> {
     match word {
         "8" => Some(Width::B8),
@@ -78,6 +63,7 @@ fn width_of(word: &str) -> Option<Width> {
     }
 }
 
+/// The operation of a name.
 fn op_of(word: &str) -> Option<AluOp> {
     Some(match word {
         "add" => AluOp::Add,

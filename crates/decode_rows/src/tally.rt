@@ -1,4 +1,4 @@
-//! What many byte lists decode to, in one line.
+// What many byte lists decode to, in one line.
 use crate::text::line_of;
 use insn_decode::{DecodeFault, decode};
 use std::alloc::{AllocError, Global};
@@ -19,6 +19,7 @@ pub struct Tally {
 struct Digest(u64);
 
 impl Digest {
+    /// One more byte.
     fn add(self, byte: u8) -> Digest {
         Digest((self.0 ^ u64::from(byte)).wrapping_mul(0x0000_0100_0000_01B3))
     }
@@ -33,6 +34,7 @@ impl Digest {
 }
 
 impl Tally {
+    /// No answer yet.
     fn new() -> Tally {
         Tally {
             decoded: 0,
@@ -43,6 +45,7 @@ impl Tally {
         }
     }
 
+    /// Adds what some bytes decode to.
     fn add(&mut self, alloc: Global, bytes: &[u8]) -> Result<(), AllocError> {
         let answer = decode(bytes);
         let count = match answer {

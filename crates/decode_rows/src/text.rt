@@ -1,4 +1,3 @@
-//! An instruction as a line of text.
 use insn_decode::DecodeFault;
 use std::alloc::{AllocError, Global};
 use std::fmt;
@@ -16,13 +15,9 @@ struct Part(Option<Reg>);
 #[derive(Clone, Copy)]
 struct Shown(Operand);
 
-fn bits(width: Width) -> u8 {
-    match width {
-        Width::B8 => 8,
-        Width::B16 => 16,
-        Width::B32 => 32,
-        Width::B64 => 64,
-    }
+/// How many bits a width has.
+fn bits(width: Width) -> u32 {
+    8 * u32::from(width.bytes())
 }
 
 impl fmt::Display for Part {

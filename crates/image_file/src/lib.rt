@@ -2,17 +2,20 @@
 //!
 //! A file is a header of 64 bytes, then the guest's code, then its data. [`Image::read`] tests the
 //! rules of the format in order and keeps what the file holds. [`Image::ram`] makes the memory that
-//! a virtual processor starts with, and [`Ram`] reads and writes it.
+//! a virtual processor starts with, and [`Ram`] reads and writes it, and keeps what was decoded of
+//! the code, which nothing writes.
 #![tactic(auto)]
 
 mod fault;
 mod header;
 mod image;
+mod kept;
 mod number;
 mod ram;
 mod rules;
 
 pub use fault::{ImageError, ImageFault};
+pub use header::MOST_VCPUS;
 pub use image::Image;
 pub use ram::{OutOfRam, Ram, RamFault};
 

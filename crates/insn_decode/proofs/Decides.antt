@@ -1,17 +1,24 @@
 -- A reader decides a part of a grammar: what it reads from the front is spelled so, what is spelled so is read,
 -- it asks for more bytes only where more bytes complete a spelling, and a refusal stands whatever follows.
 use Rattle.std.proofs.Common.{◌≡◌, ℕ, List, [], ◌∷◌, ◌++◌, Result, Ok, Err, refl, sym, ap, ◌∙◌, inl, inr, append_assoc}
-use Rattle.std.specs.Prelude.{◌⊎◌, ◌≢◌, true}
+use Rattle.std.specs.Prelude.{◌⊎◌, ◌≢◌, ◌&&◌, Bool, true, false}
 use Rattle.std.specs.List.{list_all}
 use Rattle.std.proofs.lemmas.List.Folds.{list_all-append}
-use Rattle.x86_base.specs.Spelling.{is_byte}
+use Rattle.x86_base.specs.Spelling.{is_byte, AreBytes}
 use Rattle.std.proofs.lemmas.List.{append-nil}
 use Rattle.insn_decode.specs.declared.reader.Refusal.{Refusal}
 use Rattle.insn_decode.specs.declared.reader.Refusal.TheVariants.{End, Never}
 use Rattle.insn_decode.specs.Reading.{◌>>=◌}
 
-bytes-append : (a b : List ℕ) → list_all is_byte a ≡ true → list_all is_byte b ≡ true → list_all is_byte (a ++ b) ≡ true
+pub bytes-append : (a b : List ℕ) → AreBytes a → AreBytes b → AreBytes (a ++ b)
 bytes-append a b h k = rw (list_all-append is_byte a b, h, k) refl
+
+pub front_bytes : (a b : List ℕ) → AreBytes (a ++ b) → AreBytes a
+front_bytes a b h = both (list_all is_byte a) (list_all is_byte b) (sym (list_all-append is_byte a b) ∙ h)
+  where
+    both : (x y : Bool) → (x && y) ≡ true → x ≡ true
+    both true y e = refl
+    both false y e = absurd cc
 
 -- a spelling of x stands at the front
 pub record Front {A : Type 0} (P : List ℕ → A → Type 0) (bytes : List ℕ) (x : A) (rest : List ℕ) : Type 0 where
@@ -22,7 +29,7 @@ pub record Front {A : Type 0} (P : List ℕ → A → Type 0) (bytes : List ℕ)
 -- more bytes complete a spelling
 pub record Longer {A : Type 0} (P : List ℕ → A → Type 0) (bytes : List ℕ) : Type 0 where
   pub more : List ℕ
-  pub are_bytes : list_all is_byte more ≡ true
+  pub are_bytes : AreBytes more
   pub value : A
   pub spelled : P (bytes ++ more) value
 

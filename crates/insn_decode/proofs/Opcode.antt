@@ -8,7 +8,7 @@ use Rattle.insn_decode.specs.declared.reader.Refusal.TheVariants.{End, Never}
 use Rattle.x86_base.specs.ModRm.{allows}
 use Rattle.x86_base.specs.Rows.{row, plain, o, o_r}
 use Rattle.x86_base.specs.Notation.{Gv_Ev, Yz_DX, no_operands}
-use Rattle.x86_base.specs.Table.{row_of, one_byte, two_bytes, three_bytes, low_row, middle_row}
+use Rattle.x86_base.specs.Table.{opcode_row, one_byte, two_bytes, three_bytes, row_00_to_3F, row_40_to_BF}
 use Rattle.x86_base.specs.declared.op.Op.TheVariants as op
 use Rattle.x86_base.specs.declared.row.Ops.TheVariants.{One}
 use Rattle.insn_decode.specs.Reading.{chosen, third_at, second_at, opcode_at}
@@ -17,7 +17,7 @@ use Rattle.insn_decode.proofs.Rows.{OnRow, OnRow-cond, OnRow-some}
 use Rattle.insn_decode.proofs.Tests.{bool_cases, past, passed, stopped, stops}
 
 pub record IsOpcode (c : Context) (s : List ℕ) (r : Row) : Type 0 where
-  pub is_row : row_of s ≡ Some r
+  pub is_row : opcode_row s ≡ Some r
   pub is_allowed : allows c r ≡ true
 
 chosen_ok : (c : Context) (o : Option Row) (bs rest : List ℕ) (r : Row) → chosen c o bs ≡ Ok (r, rest) → (o ≡ Some r) × (allows c r ≡ true) × (bs ≡ rest)
@@ -46,7 +46,7 @@ chosen_never c (Some q) bs more e = elim (bool_cases (allows c q)) [ inl holds �
 -- ---- what the tables have at their ends
 
 one_byte-escape : one_byte 0x0F ≡ None
-unfolding low_row
+unfolding row_00_to_3F
 one_byte-escape = refl
 
 two_bytes-escape : two_bytes 1 ≡ None
@@ -190,7 +190,7 @@ second_ends c b (d ∷ bs) is_escape rep e = elim (bool_cases (d == 1)) [
 ]
 
 opcode_ends : (c : Context) (bs : List ℕ) → opcode_at c bs ≡ Err End → Longer (IsOpcode c) bs
-unfolding opcode_at middle_row
+unfolding opcode_at row_40_to_BF
 opcode_ends c [] e = record { more = 0x6D ∷ []; are_bytes = refl; value = ins; spelled = record { is_row = refl; is_allowed = refl } }
 opcode_ends c (b ∷ bs) e = elim (bool_cases (b == 0x0F)) [
   | inl holds ↦

@@ -4,7 +4,7 @@ use Rattle.std.specs.Prelude.{◌⊎◌, ◌==◌, ◌&&◌, is_none}
 use Rattle.std.proofs.lemmas.Bool.Decides.{nat_tests}
 use Rattle.x86_base.specs.declared.row.Row.{Row}
 use Rattle.x86_base.specs.Spelling.{is_prefix}
-use Rattle.x86_base.specs.Table.{row_of, one_byte, middle_row, high_row}
+use Rattle.x86_base.specs.Table.{opcode_row, one_byte, row_40_to_BF, row_C0_to_FF}
 use Rattle.insn_decode.proofs.Opcode.{is_15}
 use Rattle.insn_decode.proofs.Tests.{bool_cases}
 use Rattle.insn_decode.proofs.Prefixes.{Starts, is_rex}
@@ -39,7 +39,7 @@ rex_bounds b h = grind (arith, nat_tests)
 
 -- no opcode is a REX byte
 pub rex_free : (b : ℕ) → is_rex b ≡ true → one_byte b ≡ None
-unfolding middle_row
+unfolding row_40_to_BF
 rex_free b h =
     let k = rex_bounds b h in
     let e : 0x40 + (b - 0x40) ≡ b = omega (arith, k.0) in
@@ -47,7 +47,7 @@ rex_free b h =
 
 -- the first byte of an opcode passes no test that holds of no row's first byte nor of 0F
 pub opcode_starts : (test : ℕ → Bool) → test 0x0F ≡ false → ((b : ℕ) → test b ≡ true → one_byte b ≡ None) →
-    (s : List ℕ) (r : Row) → row_of s ≡ Some r → Starts test s
+    (s : List ℕ) (r : Row) → opcode_row s ≡ Some r → Starts test s
 opcode_starts test escape free [] r e = absurd cc
 opcode_starts test escape free (b ∷ []) r e = record {
   first = b;
@@ -79,7 +79,7 @@ opcode_starts test escape free (b ∷ d ∷ k ∷ []) r e = record {
 opcode_starts test escape free (b ∷ d ∷ k ∷ j ∷ s) r e = absurd cc
 
 pub prefix_free : (b : ℕ) → is_prefix b ≡ true → one_byte b ≡ None
-unfolding middle_row high_row
+unfolding row_40_to_BF row_C0_to_FF
 prefix_free b h = elim (is_either b h) [ inl e ↦ rw e refl | inr e ↦ rw e refl ]
   where
     is_either : (b : ℕ) → is_prefix b ≡ true → (b ≡ 0x66) ⊎ (b ≡ 0xF3)

@@ -9,9 +9,9 @@ use Rattle.insn_decode.specs.declared.reader.Refusal.{Refusal}
 use Rattle.insn_decode.specs.declared.reader.Refusal.TheVariants.{End}
 use Rattle.x86_base.specs.ModRm.{allows}
 use Rattle.x86_base.specs.Operands.{insn_of}
-use Rattle.x86_base.specs.Spelling.{is_prefix, IsRex, IsTail, Spells, BeginsSpelling}
+use Rattle.x86_base.specs.Spelling.{AreBytes, is_prefix, IsRex, IsTail, Spells, BeginsSpelling}
 use Rattle.insn_decode.specs.Reading.{◌>>=◌, start, prefixes_at, rex_at, opcode_at, tail_at, instruction_at}
-use Rattle.insn_decode.proofs.Decides.{Decides, Decides-short, Then, then_at, then_decides, Mapped, mapped, mapped_decides, bind_ok, bind_err, bind_assoc, bind_same, ok_is}
+use Rattle.insn_decode.proofs.Decides.{front_bytes, bytes-append, Decides, Decides-short, Then, then_at, then_decides, Mapped, mapped, mapped_decides, bind_ok, bind_err, bind_assoc, bind_same, ok_is}
 use Rattle.insn_decode.proofs.Opcode.{IsOpcode, opcode_decides}
 use Rattle.insn_decode.proofs.Tail.{IsTailOf, tail_decides, tail_some}
 use Rattle.insn_decode.proofs.Prefixes.{Starts, is_rex, with_rex, Rexed, rexed, rexed-nil, rexed_decides, marks, Prefixed, prefixed, prefixed_decides}
@@ -71,8 +71,8 @@ whole_decides = prefixed_decides (Rexed Body) (rexed body_at)
 abbrev spelled_insn : Parts → List ℕ → Insn
 spelled_insn y s = insn_of y.context y.row y.tail (length s)
 
-whole_spells : (s : List ℕ) (y : Parts) → Whole s y → Spells s (spelled_insn y s)
-whole_spells s y h =
+whole_spells : (s : List ℕ) (y : Parts) → AreBytes s → Whole s y → Spells s (spelled_insn y s)
+whole_spells s y are h =
     let c = context_is h.prefixes h.spelled.rex h.are_prefixes in
     let b = h.spelled.spelled in
     let t = b.second in
@@ -82,6 +82,7 @@ whole_spells s y h =
       opcode = b.left;
       tail = b.right;
       row = b.value;
+      are_bytes = are;
       are_prefixes = h.are_prefixes;
       is_rex = h.spelled.is_rex;
       is_row = b.first.is_row;
@@ -154,13 +155,13 @@ pub record Found (bytes : List ℕ) (insn : Insn) : Type 0 where
   pub split : bytes ≡ front ++ rest
   pub spelled : Spells front insn
 
-pub instruction_found : (bytes : List ℕ) (insn : Insn) → instruction_at bytes ≡ Ok insn → Found bytes insn
-instruction_found bytes insn e =
+pub instruction_found : (bytes : List ℕ) (insn : Insn) → AreBytes bytes → instruction_at bytes ≡ Ok insn → Found bytes insn
+instruction_found bytes insn are e =
     let b = bind_ok (whole_at bytes) (finished bytes) insn (sym (instruction_is bytes) ∙ e) in
     let f = whole_decides.sound bytes b.0.1 b.0.0 b.1 in
     let len : length bytes - length b.0.1 ≡ length f.front = omega (arith, ap length f.split, length-append f.front b.0.1) in
     let is : spelled_insn b.0.0 f.front ≡ insn = ap (λ (n : ℕ). insn_of b.0.0.context b.0.0.row b.0.0.tail n) (sym len) ∙ ok_is _ _ b.2 in
-    record { front = f.front; rest = b.0.1; split = f.split; spelled = subst (Spells f.front) is (whole_spells f.front b.0.0 f.spelled) }
+    record { front = f.front; rest = b.0.1; split = f.split; spelled = subst (Spells f.front) is (whole_spells f.front b.0.0 (front_bytes f.front b.0.1 (subst AreBytes f.split are)) f.spelled) }
 
 pub instruction_again : (front rest : List ℕ) (insn : Insn) → Spells front insn → instruction_at (front ++ rest) ≡ Ok insn
 instruction_again front rest insn h =
@@ -170,15 +171,14 @@ instruction_again front rest insn h =
     instruction_is (front ++ rest) ∙ ap (λ (r : Result (Parts × List ℕ) Refusal). r >>= finished (front ++ rest)) e
     ∙ ap (λ (n : ℕ). Ok (insn_of w.0.context w.0.row w.0.tail n)) len ∙ ap (λ (i : Insn). Ok i) (sym w.2)
 
-pub instruction_ends : (bytes : List ℕ) → instruction_at bytes ≡ Err End → BeginsSpelling bytes
-instruction_ends bytes e =
+pub instruction_ends : (bytes : List ℕ) → AreBytes bytes → instruction_at bytes ≡ Err End → BeginsSpelling bytes
+instruction_ends bytes are e =
     elim (bind_err (whole_at bytes) (finished bytes) End (sym (instruction_is bytes) ∙ e)) [
       | inl ended ↦
           let k = whole_decides.ends bytes ended in
-          let s = whole_spells (bytes ++ k.more) k.value k.spelled in
+          let s = whole_spells (bytes ++ k.more) k.value (bytes-append bytes k.more are k.are_bytes) k.spelled in
           record {
             more = k.more;
-            are_bytes = k.are_bytes;
             insn = spelled_insn k.value (bytes ++ k.more);
             some = (λ none.
                 let f : instruction_at bytes ≡ Ok (spelled_insn k.value (bytes ++ k.more)) = ap instruction_at (sym (append-nil bytes) ∙ ap (λ (t : List ℕ). bytes ++ t) (sym none) ∙ sym (append-nil (bytes ++ k.more))) ∙ instruction_again (bytes ++ k.more) [] _ s in

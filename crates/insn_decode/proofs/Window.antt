@@ -1,17 +1,21 @@
 -- What the answer on the first 15 bytes says of all bytes.
-use Rattle.std.proofs.Common.{◌≡◌, ℕ, zero, suc, ◌-◌, ◌<◌, ◌≤◌, true, false, List, [], ◌∷◌, ◌++◌, length, take, drop, Result, Ok, Err, refl, sym, ap, ◌∙◌, subst, inl, inr, arith, append_assoc, length-append}
+use Rattle.std.proofs.Common.{◌≡◌, ℕ, zero, suc, ◌-◌, ◌<◌, ◌≤◌, true, false, List, [], ◌∷◌, ◌++◌, length, get_or, take, drop, Result, Ok, Err, refl, sym, ap, ◌∙◌, subst, inl, inr, arith, append_assoc, length-append}
 use Rattle.std.specs.Prelude.{◌↔◌, IfOk, OnOk, nat_lt}
 use Rattle.std.proofs.lemmas.Bool.{ltb-false, ltb-true, le-ltb, lt-ltb}
 use Rattle.std.proofs.lemmas.List.{take-append-drop, length-take, take_all}
 use Rattle.std.proofs.Math.Nat.{sub-zero}
+use mir.Syntax.{w8}
+use mir.Val.{Fits}
 use Rattle.x86_base.specs.declared.insn.Insn.{Insn}
 use Rattle.insn_decode.specs.declared.reader.Refusal.{Refusal}
 use Rattle.insn_decode.specs.declared.reader.Refusal.TheVariants.{End, Never}
 use Rattle.insn_decode.specs.declared.fault.DecodeFault.{DecodeFault}
 use Rattle.insn_decode.specs.declared.fault.DecodeFault.TheVariants.{TooLong, Short, Undecoded}
-use Rattle.x86_base.specs.Spelling.{Begins, BeginsSpelling}
+use Rattle.std.specs.List.{list_all}
+use Rattle.x86_base.specs.Spelling.{is_byte, AreBytes, Begins, BeginsSpelling}
 use Rattle.insn_decode.specs.Refusals.{IsTooLong, IsShort, SpellsNothing}
 use Rattle.insn_decode.specs.Reading.{instruction_at, decoded, filled}
+use Rattle.insn_decode.proofs.Decides.{front_bytes}
 use Rattle.insn_decode.proofs.Tests.{bool_cases}
 use Rattle.insn_decode.proofs.Whole.{Found, instruction_found, instruction_again, instruction_ends, begins_ends}
 
@@ -46,12 +50,29 @@ if_ok : {P : Insn → Type 0} (r : Result Insn DecodeFault) → ((insn : Insn) �
 if_ok (Ok x) h = h x refl
 if_ok (Err e) h = tt
 
-pub found : (bytes : List ℕ) → IfOk (answer bytes) (Begins bytes)
-found bytes = if_ok {P = Begins bytes} (answer bytes) (λ insn e. begins bytes insn (instruction_found (take 15 bytes) insn (ok_only (length bytes) (instruction_at (take 15 bytes)) insn e)))
+window_bytes : (bytes : List ℕ) → AreBytes bytes → AreBytes (take 15 bytes)
+window_bytes bytes are =
+    front_bytes (take 15 bytes) (drop 15 bytes) (ap (list_all is_byte) (take-append-drop 15 bytes) ∙ are)
 
-pub found_filled : {A : Type 0} (r : Result A DecodeFault) (bytes : List ℕ) (insn : Insn) → filled r insn ≡ answer bytes → OnOk r (Begins bytes insn)
-found_filled (Ok done) bytes insn e = subst (λ (r : Result Insn DecodeFault). IfOk r (Begins bytes)) (sym e) (found bytes)
-found_filled (Err fault) bytes insn e = tt
+-- the elements of a slice of bytes are bytes
+pub slice_bytes : (bytes : List ℕ) → ((i : ℕ) → Fits w8 (get_or bytes i 0)) → AreBytes bytes
+slice_bytes [] h = refl
+slice_bytes (b ∷ bytes) h =
+    let f = h 0 in
+    let lt : b < 256 = omega arith in
+    rw (lt-ltb _ _ lt) (slice_bytes bytes (λ i. h (suc i)))
+
+answered : (bytes : List ℕ) (insn : Insn) → AreBytes bytes → answer bytes ≡ Ok insn → Begins bytes insn
+answered bytes insn are e =
+    begins bytes insn (instruction_found (take 15 bytes) insn (window_bytes bytes are) (ok_only (length bytes) (instruction_at (take 15 bytes)) insn e))
+
+pub found : (bytes : List ℕ) → AreBytes bytes → IfOk (answer bytes) (Begins bytes)
+found bytes are = if_ok {P = Begins bytes} (answer bytes) (λ insn. answered bytes insn are)
+
+pub found_filled : {A : Type 0} (r : Result A DecodeFault) (bytes : List ℕ) (insn : Insn) → AreBytes bytes
+    → filled r insn ≡ answer bytes → OnOk r (Begins bytes insn)
+found_filled (Ok done) bytes insn are e = subst (λ (r : Result Insn DecodeFault). IfOk r (Begins bytes)) (sym e) (found bytes are)
+found_filled (Err fault) bytes insn are e = tt
 
 pub only : (bytes : List ℕ) (insn : Insn) → Begins bytes insn → answer bytes ≡ Ok insn
 only bytes insn b =
@@ -64,38 +85,41 @@ only bytes insn b =
     take_past zero (x ∷ a) b le = absurd (omega arith)
     take_past (suc n) (x ∷ a) b le = let e : suc n - suc (length a) ≡ n - length a = omega arith in rw e (ap (λ (t : List ℕ). x ∷ t) (take_past n a b (omega arith)))
 
-pub too_long : (bytes : List ℕ) → (answer bytes ≡ Err TooLong) ↔ IsTooLong bytes
-too_long bytes = (
-  (λ e. let f = long_only (length bytes) (instruction_at (take 15 bytes)) e in (f.1, instruction_ends (take 15 bytes) f.0)),
+pub is_found : (bytes : List ℕ) (insn : Insn) → AreBytes bytes → (answer bytes ≡ Ok insn) ↔ Begins bytes insn
+is_found bytes insn are = (answered bytes insn are, only bytes insn)
+
+pub too_long : (bytes : List ℕ) → AreBytes bytes → (answer bytes ≡ Err TooLong) ↔ IsTooLong bytes
+too_long bytes are = (
+  (λ e. let f = long_only (length bytes) (instruction_at (take 15 bytes)) e in (f.1, instruction_ends (take 15 bytes) (window_bytes bytes are) f.0)),
   (λ h.
       let long : nat_lt (length bytes) 15 ≡ false = le-ltb _ _ h.0 in
       ap (decoded (length bytes)) (begins_ends (take 15 bytes) h.1) ∙ rw long refl),
 )
 
-pub short : (bytes : List ℕ) → (answer bytes ≡ Err Short) ↔ IsShort bytes
-short bytes = (
+pub short : (bytes : List ℕ) → AreBytes bytes → (answer bytes ≡ Err Short) ↔ IsShort bytes
+short bytes are = (
   (λ e.
       let f = short_only (length bytes) (instruction_at (take 15 bytes)) e in
       let lt = f.1 in
-      (lt, subst BeginsSpelling (take_all 15 bytes (omega arith)) (instruction_ends (take 15 bytes) f.0))),
+      (lt, subst BeginsSpelling (take_all 15 bytes (omega arith)) (instruction_ends (take 15 bytes) (window_bytes bytes are) f.0))),
   (λ h.
       let lt = h.0 in
       let below : nat_lt (length bytes) 15 ≡ true = lt-ltb _ _ lt in
       ap (decoded (length bytes)) (begins_ends (take 15 bytes) (subst BeginsSpelling (sym (take_all 15 bytes (omega arith))) h.1)) ∙ rw below refl),
 )
 
-pub undecoded : (bytes : List ℕ) → (answer bytes ≡ Err Undecoded) ↔ SpellsNothing bytes
-undecoded bytes = (
+pub undecoded : (bytes : List ℕ) → AreBytes bytes → (answer bytes ≡ Err Undecoded) ↔ SpellsNothing bytes
+undecoded bytes are = (
   (λ e. (
     (λ insn b. let o = sym (only bytes insn b) ∙ e in cc),
-    (λ h. let t = sym ((too_long bytes).1 h) ∙ e in cc),
-    (λ h. let t = sym ((short bytes).1 h) ∙ e in cc),
+    (λ h. let t = sym ((too_long bytes are).1 h) ∙ e in cc),
+    (λ h. let t = sym ((short bytes are).1 h) ∙ e in cc),
   )),
   (λ h. nothing (answer bytes) refl h),
 )
   where
     nothing : (r : Result Insn DecodeFault) → answer bytes ≡ r → SpellsNothing bytes → r ≡ Err Undecoded
-    nothing (Ok x) e h = absurd (h.0 x (begins bytes x (instruction_found (take 15 bytes) x (ok_only (length bytes) (instruction_at (take 15 bytes)) x e))))
-    nothing (Err TooLong) e h = absurd (h.1 ((too_long bytes).0 e))
-    nothing (Err Short) e h = absurd (h.2 ((short bytes).0 e))
+    nothing (Ok x) e h = absurd (h.0 x (answered bytes x are e))
+    nothing (Err TooLong) e h = absurd (h.1 ((too_long bytes are).0 e))
+    nothing (Err Short) e h = absurd (h.2 ((short bytes are).0 e))
     nothing (Err Undecoded) e h = refl

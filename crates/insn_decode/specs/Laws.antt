@@ -1,5 +1,5 @@
 -- What holds of every instruction that has a spelling.
-use Rattle.std.specs.Prelude.{◌<◌, Bool, true, false}
+use Rattle.std.specs.Prelude.{◌<◌}
 use Rattle.x86_base.specs.declared.op.Op.{Op}
 use Rattle.x86_base.specs.declared.op.Op.TheVariants as op
 
@@ -9,10 +9,3 @@ HasCondition (op.Jcc c) = c < 16
 HasCondition (op.Setcc c) = c < 16
 HasCondition (op.Cmovcc c) = c < 16
 HasCondition _ = Unit {0}
-
--- a move whose source is narrower than its destination
-abbrev pub widens : Op → Bool
-widens op.Movzx = true
-widens op.Movsx = true
-widens op.Movsxd = true
-widens _ = false

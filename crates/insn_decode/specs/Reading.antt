@@ -80,5 +80,6 @@ decoded len (Err End) = if nat_lt len 15 then Err Short else Err TooLong
 decoded len (Err Never) = Err Undecoded
 
 -- what all bytes are read as: the instruction at their front, or why there is none
+-- (the law `read_by_spelling` says when each answer comes, by `Begins`, `IsTooLong`, `IsShort` and `SpellsNothing` alone)
 unfoldable pub decode_of : List ℕ → Result Insn DecodeFault
 decode_of bytes = decoded (length bytes) (instruction_at (take 15 bytes))

@@ -1,4 +1,4 @@
-//! The instruction of a row and the bytes behind its opcode.
+// The instruction of a row and the bytes behind its opcode.
 ghost use Rattle.std.specs.Prelude.{◌≡◌};
 ghost use Rattle.x86_base.specs.Operands.{width_of, source_width_of, insn_of};
 ghost use Rattle.x86_base.specs.Spelling.{IsTail};
@@ -7,8 +7,7 @@ use crate::context::is_long;
 use crate::operands::{destination, source};
 use crate::operation::operation;
 use crate::sizes::modrm_byte;
-use x86_base::row::{Context, Form, Row, RowWidth};
-use x86_base::{Insn, Op, Width};
+use x86_base::{Context, Form, Insn, Op, Row, RowWidth, Width};
 
 /// The width of a row.
 fn width(context: &Context, width: RowWidth) -> Width
@@ -42,6 +41,7 @@ pub fn insn(context: &Context, row: &Row, tail: &[u8], len: u8, into: &mut Insn)
     requires { IsTail context.now row.now tail.now }
     ensures { into.new ≡ insn_of context.now row.now tail.now len }
 {
+    // A tail's reg bits name an operation, so `Nop` is never put in place of one.
     into.op = operation(row.ops, modrm_byte(row, tail) / 8 % 8).unwrap_or(Op::Nop);
     into.width = width(context, row.width);
     into.source_width = source_width(context, row);

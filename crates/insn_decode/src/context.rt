@@ -1,9 +1,9 @@
-//! What stands before the opcode: the marks of a row and the bits of the REX byte
-//! (APM volume 3, section 1.2).
+// What stands before the opcode: the marks of a row and the bits of the REX byte
+// (APM volume 3, section 1.2).
 ghost use Rattle.std.specs.Prelude.{◌≡◌, ◌<◌};
 ghost use Rattle.x86_base.specs.ModRm.{rex_bit, is_w, allows};
 
-use x86_base::row::{Context, Row};
+use x86_base::{Context, Row};
 
 /// A bit of the REX byte, or 0: bit 3 is W, bit 2 R, bit 1 X, bit 0 B.
 pub fn rex_bit_of(context: &Context, at: u32) -> u8

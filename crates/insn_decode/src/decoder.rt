@@ -1,4 +1,4 @@
-//! The decoder: the first 15 bytes, and what their reading says of all bytes.
+// The decoder: the first 15 bytes, and what their reading says of all bytes.
 ghost use Rattle.std.specs.Prelude.{◌≡◌, ◌≤◌, ◌<◌, ◌↔◌, List, ℕ, take, length, IfOk, OnOk, Ok, Err};
 ghost use Rattle.x86_base.specs.declared.insn.Insn.{Insn};
 ghost use Rattle.x86_base.specs.Spelling.{Begins};
@@ -7,12 +7,14 @@ ghost use Rattle.insn_decode.specs.Reading.{instruction_at, decoded, decode_of, 
 
 use crate::fault::DecodeFault;
 use crate::reader::{Refusal, instruction};
-use x86_base::{Insn, Op, Operand, Width};
+use x86_base::Insn;
 
 /// The longest instruction, in bytes (APM volume 3, section 1.1).
 const LONGEST: usize = 15;
 
-/// Puts the instruction that the first 15 bytes say of all bytes in its place.
+/// Puts the instruction that the first 15 bytes say of all bytes in its place. It isn't inlined, so that
+/// a caller that finds the instruction kept doesn't pay for its registers.
+#[inline(never)]
 fn decode_window(bytes: &[u8], into: &mut Insn) -> Result<(), DecodeFault>
     ensures { filled result into.new ≡ decoded (length bytes.now) (instruction_at (take 15 bytes.now)) }
 {
@@ -29,22 +31,11 @@ fn decode_window(bytes: &[u8], into: &mut Insn) -> Result<(), DecodeFault>
     }
 }
 
-/// NOP by its one byte, for the place of an instruction that is still to be decoded.
-pub const NOP: Insn = Insn {
-    op: Op::Nop,
-    width: Width::B64,
-    source_width: Width::B64,
-    dst: Operand::Absent,
-    src: Operand::Absent,
-    rep: false,
-    len: 1,
-};
-
 /// The answer for all bytes, from the reading of the first 15.
 fn decode_whole(bytes: &[u8]) -> Result<Insn, DecodeFault>
     ensures { result ≡ decoded (length bytes.now) (instruction_at (take 15 bytes.now)) }
 {
-    let mut insn = NOP;
+    let mut insn = Insn::NOP;
     decode_window(bytes, &mut insn)?;
     Ok(insn)
 }

@@ -1,5 +1,3 @@
-//! Why bytes are no instruction.
-
 /// Why no instruction was decoded.
 #[derive(Clone, Copy, Debug, PartialEq, Eq)]
 pub enum DecodeFault {

@@ -1,7 +1,7 @@
 //! Reads one instruction from bytes.
 //!
 //! `decode` is the definition of a spelling in `x86_base`, read from left to right and exact in its
-//! refusals. `laws` has what holds of every spelling.
+//! refusals. `laws` has what holds of every spelling and of what any bytes are read as.
 #![tactic(auto)]
 
 mod assemble;
@@ -18,5 +18,5 @@ mod registers;
 mod sizes;
 mod table;
 
-pub use decoder::{NOP, decode, decode_into};
+pub use decoder::{decode, decode_into};
 pub use fault::DecodeFault;

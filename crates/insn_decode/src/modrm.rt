@@ -1,4 +1,4 @@
-//! The operand of the ModRM byte's mod and r/m bits (APM volume 3, sections 1.4 and 1.7).
+// The operand of the ModRM byte's mod and r/m bits (APM volume 3, sections 1.4 and 1.7).
 ghost use Rattle.std.specs.Prelude.{◌≡◌};
 ghost use Rattle.x86_base.specs.ModRm.{HasAddress};
 ghost use Rattle.x86_base.specs.Operands.{memory, rm_operand};
@@ -7,8 +7,7 @@ use crate::context::rex_bit_of;
 use crate::number::signed_part;
 use crate::registers::{reg, register_operand};
 use crate::sizes::{byte_at, displacement_bytes, displacement_start, has_sib};
-use x86_base::row::Context;
-use x86_base::{MemRef, Operand};
+use x86_base::{Context, MemRef, Operand};
 
 /// The operand in memory that the ModRM and SIB bytes name.
 #[tactic(auto, unfolding(x86_base::specs::Operands::memory))]

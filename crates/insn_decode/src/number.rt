@@ -1,4 +1,3 @@
-//! Displacements and immediates.
 ghost use Rattle.std.specs.Prelude.{◌≡◌, ◌≤◌, ◌<◌, ◌+◌, ◌-◌, ◌*◌, ◌^◌, if◌then◌else◌, nat_lt, length};
 ghost use Rattle.x86_base.specs.Numbers.{little, extended, signed_at, HasNumberLen};
 

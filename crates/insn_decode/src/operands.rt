@@ -1,4 +1,3 @@
-//! The first and the second operand of a row.
 ghost use Rattle.std.specs.Prelude.{◌≡◌};
 ghost use Rattle.x86_base.specs.Operands.{immediate, byte_immediate, is_narrow, dst_of, src_of};
 ghost use Rattle.x86_base.specs.Spelling.{IsTail};
@@ -7,8 +6,7 @@ use crate::modrm::rm;
 use crate::number::signed_part;
 use crate::registers::{reg_from_modrm, reg_from_opcode};
 use crate::sizes::{byte_at, imm_bytes, imm_start, modrm_byte};
-use x86_base::row::{Context, Form, Row, RowWidth};
-use x86_base::{Operand, Reg};
+use x86_base::{Context, Form, Operand, Reg, Row, RowWidth};
 
 /// The immediate, with its sign. It is inlined, since the row would else be kept in memory for it.
 #[tactic(auto, unfolding(x86_base::specs::Operands::immediate))]

@@ -1,9 +1,8 @@
-//! The operations of a row (APM volume 3, appendix A, "ModRM extensions").
+// The operations of a row (APM volume 3, appendix A, "ModRM extensions").
 ghost use Rattle.std.specs.Prelude.{◌≡◌};
 ghost use Rattle.x86_base.specs.Table.{arithmetic_of, op_at};
 
-use x86_base::Op;
-use x86_base::row::Ops;
+use x86_base::{Op, Ops};
 
 /// The operation number k of the eight.
 pub fn arithmetic(k: u8) -> Op

@@ -1,4 +1,4 @@
-//! Reading an instruction from left to right.
+// Reading an instruction from left to right.
 ghost use Rattle.std.specs.Prelude.{◌≡◌, ◌≤◌, length};
 ghost use Rattle.insn_decode.specs.Reading.{Gives, filled, start, prefixes_at, rex_at, chosen, second_at, third_at, opcode_at, tail_at, instruction_at};
 
@@ -6,8 +6,7 @@ use crate::assemble::insn;
 use crate::context::is_allowed;
 use crate::sizes::{byte_at, form_has_modrm, is_accepted, modrm_byte, tail_bytes};
 use crate::table::{row_one, row_three, row_two};
-use x86_base::Insn;
-use x86_base::row::{Context, Row};
+use x86_base::{Context, Insn, Row};
 
 /// Why no instruction was read.
 #[derive(Clone, Copy, Debug, PartialEq, Eq)]

@@ -1,11 +1,10 @@
-//! Register operands (APM volume 3, sections 1.2.7 and 1.4).
+// Register operands (APM volume 3, sections 1.2.7 and 1.4).
 ghost use Rattle.std.specs.Prelude.{◌≡◌};
 ghost use Rattle.x86_base.specs.Operands.{reg_of, register, reg_operand, opcode_operand};
 
 use crate::context::rex_bit_of;
 use crate::sizes::byte_at;
-use x86_base::row::Context;
-use x86_base::{Operand, Reg};
+use x86_base::{Context, Operand, Reg};
 
 /// The register of a number below 16.
 pub fn reg(number: u8) -> Reg

@@ -1,11 +1,11 @@
-//! How many bytes stand behind an opcode, and where (APM volume 3, sections 1.4 to 1.6).
+// How many bytes stand behind an opcode, and where (APM volume 3, sections 1.4 to 1.6).
 ghost use Rattle.std.specs.Prelude.{◌≡◌, ◌≤◌, get_or};
 ghost use Rattle.x86_base.specs.ModRm.{has_modrm, modrm, accepts, needs_sib, displacement_at, displacement_len, word_len, imm_len, imm_at, tail_len};
 ghost use Rattle.x86_base.specs.Numbers.{HasNumberLen};
 
 use crate::context::is_long;
 use crate::operation::operation;
-use x86_base::row::{Context, Form, Imm, Row};
+use x86_base::{Context, Form, Imm, Row};
 
 /// The byte at a place, or 0.
 pub fn byte_at(bytes: &[u8], at: usize) -> u8

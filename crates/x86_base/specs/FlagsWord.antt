@@ -21,5 +21,5 @@ abbrev pub bit_of : Bool → ℕ → ℕ
 bit_of set index = if set then 2 ^ index else 0
 
 -- bit 1 always reads 1
-abbrev pub word_of : Flags → ℕ
-word_of f = 2 ^ 1 + bit_of f.cf 0 + bit_of f.pf 2 + bit_of f.zf 6 + bit_of f.sf 7 + bit_of f.df 10 + bit_of f.of 11
+abbrev pub flags_word : Flags → ℕ
+flags_word f = 2 ^ 1 + bit_of f.cf 0 + bit_of f.pf 2 + bit_of f.zf 6 + bit_of f.sf 7 + bit_of f.df 10 + bit_of f.of 11

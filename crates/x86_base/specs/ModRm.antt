@@ -21,7 +21,8 @@ is_w c = rex_bit c.rex 3 == 1
 
 -- whether a row may stand behind these prefixes, by its marks
 abbrev pub allows : Context → Row → Bool
-allows c r = (r.size || not c.size) && (r.rep || not c.rep) && (not r.long || is_w c) && not (r.no_base && (rex_bit c.rex 0 == 1))
+allows c r =
+    (r.size || not c.size) && (r.rep || not c.rep) && (not r.long || is_w c) && not (r.no_base && (rex_bit c.rex 0 == 1))
 
 -- ---- the ModRM byte m and the SIB byte
 

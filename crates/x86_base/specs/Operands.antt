@@ -30,7 +30,8 @@ reg_of n =
 -- a register operand, of 8 bits where it is narrow: 4 to 7 are AH, CH, DH and BH without REX
 unfoldable pub register : Context → Bool → ℕ → Operand
 register c narrow n =
-    if narrow && is_none c.rex && nat_le 4 n && nat_lt n 8 then operand.High (reg_of (n - 4)) else operand.Whole (reg_of n)
+    if narrow && is_none c.rex && nat_le 4 n && nat_lt n 8 then operand.High (reg_of (n - 4))
+    else operand.Whole (reg_of n)
 
 -- the operand in memory: mod 0 with r/m 5 counts from RIP, and base 5 with mod 0 is a displacement
 -- alone; index 4 without REX.X is none
@@ -142,6 +143,8 @@ source_width_of c r form.RegRmWord = B16
 source_width_of c r form.RegRmDouble = B32
 source_width_of c r _ = width_of c r.width
 
+-- The operation of a row and its ModRM byte. Where there is none this is `Nop`, and that case doesn't come: a spelling's
+-- ModRM byte is one that the row accepts (`IsTail`), so the row has an operation there.
 abbrev pub operation_of : Row → ℕ → Op
 operation_of r m = unwrap_or (op_at r.ops (reg_bits m)) op.Nop
 

@@ -56,6 +56,8 @@ abbrev pub part_of : Regs → Option Reg → ℕ
 part_of r None = 0
 part_of r (Some reg) = whole reg r
 
--- the effective address, where `next` is the following instruction's (APM volume 1, section 2.2.3)
+-- the effective address, where `next` is the following instruction's (APM volume 1, "Effective Addresses")
 abbrev pub address_of : MemRef → Regs → ℕ → ℕ
-address_of m r next = (part_of r m.base + part_of r m.index * m.scale + m.disp + (if m.from_rip then next else 0)) % 2 ^ 64
+address_of m r next =
+    let from = if m.from_rip then next else 0 in
+    (part_of r m.base + part_of r m.index * m.scale + m.disp + from) % 2 ^ 64

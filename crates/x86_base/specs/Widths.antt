@@ -1,4 +1,4 @@
--- Widths of registers and operands (APM volume 1, section 2.2).
+-- Widths of registers and operands (APM volume 1, "Operand Sizes and Overrides").
 use Rattle.std.specs.Prelude.{ℕ, ◌%◌, ◌^◌}
 use Rattle.x86_base.specs.declared.reg.Width.{Width}
 use Rattle.x86_base.specs.declared.reg.Width.TheVariants.{B8, B16, B32, B64}

@@ -1,6 +1,6 @@
-//! The flags (APM volume 1, section 3.1.4).
+// The flags (APM volume 1, section 3.1.4).
 ghost use Rattle.std.specs.Prelude.{◌≡◌, ◌<◌, ◌^◌, if◌then◌else◌};
-ghost use Rattle.x86_base.specs.FlagsWord.{bit_at, flags_of, word_of};
+ghost use Rattle.x86_base.specs.FlagsWord.{bit_at, flags_of, flags_word};
 
 /// The carry, parity, zero, sign, direction and overflow flags.
 #[derive(Clone, Copy, Debug, PartialEq, Eq)]
@@ -32,7 +32,7 @@ impl Flags {
     /// The flags word: bit 1, which always reads 1, and bits 0, 2, 6, 7, 10 and 11 by the six flags
     /// (APM volume 2, section 3.1.6).
     pub fn to_word(&self) -> u64
-        ensures value { result ≡ word_of self.now }
+        ensures value { result ≡ flags_word self.now }
     {
         2 + masked(self.cf, 1 << 0)
             + masked(self.pf, 1 << 2)

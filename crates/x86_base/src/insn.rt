@@ -1,4 +1,3 @@
-//! Instructions.
 use crate::memory::MemRef;
 use crate::op::Op;
 use crate::reg::{Reg, Width};
@@ -30,4 +29,17 @@ pub struct Insn {
     pub src: Operand,
     pub rep: bool,
     pub len: u8,
+}
+
+impl Insn {
+    /// NOP by its one byte, for the place of an instruction that is still to be decoded.
+    pub const NOP: Insn = Insn {
+        op: Op::Nop,
+        width: Width::B64,
+        source_width: Width::B64,
+        dst: Operand::Absent,
+        src: Operand::Absent,
+        rep: false,
+        len: 1,
+    };
 }

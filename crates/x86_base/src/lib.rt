@@ -3,14 +3,14 @@
 //! `specs/Spelling.antt` is the definition of a spelling, over the opcode table of `specs/Table.antt`.
 #![tactic(auto)]
 
-pub mod flags;
-pub mod insn;
-pub mod memory;
-pub mod op;
-pub mod reg;
-pub mod regs;
-pub mod row;
-pub mod stop;
+mod flags;
+mod insn;
+mod memory;
+mod op;
+mod reg;
+mod regs;
+mod row;
+mod stop;
 
 pub use flags::Flags;
 pub use insn::{Insn, Operand};
@@ -18,4 +18,5 @@ pub use memory::{MemRef, address};
 pub use op::Op;
 pub use reg::{Reg, Width};
 pub use regs::Regs;
+pub use row::{Context, Form, Imm, Ops, Row, RowWidth};
 pub use stop::Stop;

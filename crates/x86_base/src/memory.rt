@@ -1,4 +1,4 @@
-//! Operands in memory and their addresses (APM volume 1, section 2.2.3).
+// Operands in memory and their addresses (APM volume 1, "Effective Addresses").
 ghost use Rattle.std.specs.Prelude.{◌≡◌};
 ghost use Rattle.x86_base.specs.Registers.{part_of, address_of};
 

@@ -1,5 +1,3 @@
-//! Operations.
-
 /// What an instruction does. A conditional operation holds its condition, 0 to 15
 /// (APM volume 3, appendix A, "rFLAGS condition codes").
 #[derive(Clone, Copy, Debug, PartialEq, Eq)]

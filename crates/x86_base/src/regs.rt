@@ -1,5 +1,4 @@
-//! A processor's registers.
-ghost use Rattle.std.specs.Prelude.{◌≡◌, length};
+ghost use Rattle.std.specs.Prelude.{◌≡◌, ℕ, ◌<◌, ◌^◌, bit_and};
 ghost use Rattle.x86_base.specs.Registers.{merged, whole, put, put_high};
 
 use crate::flags::Flags;
@@ -13,16 +12,25 @@ pub struct Regs {
     pub flags: Flags,
 }
 
+/// The bits of a register that a write at a width keeps: those that stand in it after a write of 0.
+#[tactic(auto, using(crate::proofs::Masks::kept_8, crate::proofs::Masks::kept_16, crate::proofs::Masks::kept_none))]
+fn kept_bits(width: Width) -> u64
+    ensures { (old : ℕ) → old < 2 ^ 64 → bit_and old result ≡ merged width old 0 }
+{
+    match width {
+        Width::B8 => 0xFFFF_FFFF_FFFF_FF00,
+        Width::B16 => 0xFFFF_FFFF_FFFF_0000,
+        Width::B32 => 0,
+        Width::B64 => 0,
+    }
+}
+
 /// What a register holds where it held `old` and the low bits of `value` are written at a width.
+#[tactic(auto, using(crate::proofs::Masks::merged_masked))]
 fn merge(width: Width, old: u64, value: u64) -> u64
     ensures { result ≡ merged width old value }
 {
-    match width {
-        Width::B8 => old / 0x100 * 0x100 + value % 0x100,
-        Width::B16 => old / 0x1_0000 * 0x1_0000 + value % 0x1_0000,
-        Width::B32 => value % 0x1_0000_0000,
-        Width::B64 => value,
-    }
+    (old & kept_bits(width)) | width.low(value)
 }
 
 impl Regs {
@@ -58,11 +66,6 @@ impl Regs {
         let old = self.get(reg);
         self.gpr[reg as usize] = old / 0x1_0000 * 0x1_0000 + value % 0x100 * 0x100 + old % 0x100;
     }
-
-    /// There are sixteen general registers.
-    pub fn sixteen(&self)
-        ensures length { length self.now.gpr ≡ 16 }
-    {}
 }
 
 #[cfg(test)]

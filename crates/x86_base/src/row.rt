@@ -1,4 +1,4 @@
-//! The parts of a row of the opcode table, and what stands before an opcode.
+// The parts of a row of the opcode table, and what stands before an opcode.
 use crate::op::Op;
 
 /// What stands before the opcode: the operand-size prefix 66, the REP prefix F3, a REX byte.

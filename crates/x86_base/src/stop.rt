@@ -1,5 +1,3 @@
-//! How an instruction stops a processor.
-
 /// Why a processor stops at an instruction: it was HLT, an operand's address can't be used, or an
 /// exception that can't be delivered.
 #[derive(Clone, Copy, Debug, PartialEq, Eq)]
