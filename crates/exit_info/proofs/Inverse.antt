@@ -4,8 +4,8 @@ use Rattle.std.proofs.lemmas.Grind.{common_steps}
 use Rattle.exit_info.specs.declared.io_info.IoInfo.{IoInfo}
 use Rattle.exit_info.specs.declared.io_info.BadInfo.{BadInfo}
 use Rattle.exit_info.specs.declared.io_info.BadInfo.TheVariants.{Reserved}
-use Rattle.exit_info.specs.Bits.{number_in}
-use Rattle.exit_info.specs.IoInfo.{IsLawful, IsWordOf, flag, layout, word_of, taken, info_of, one_bit_of, size_in, address_in, with_size, with_address, has_reserved}
+use Rattle.word_bits.specs.Bits.{number_in}
+use Rattle.exit_info.specs.IoInfo.{IsLawfulInfo, IsInfoWord, flag, layout, info_word, taken, info_of, one_bit_of, size_in, address_size_in, with_size, with_address, has_reserved}
 
 pub flag_le : (b : Bool) → flag b ≤ 1
 flag_le true = omega arith
@@ -52,7 +52,7 @@ bit-address n address h e = grind (arith, common_steps)
 
 -- the tests in their order
 pub info_of-taken : (word size address : ℕ)
-    → has_reserved word ≡ false → size_in word ≡ Some size → address_in word ≡ Some address
+    → has_reserved word ≡ false → size_in word ≡ Some size → address_size_in word ≡ Some address
     → info_of word ≡ Ok (taken word size address)
 info_of-taken word size address clear sized addressed =
     let tested : Bool → Result IoInfo BadInfo = λ b. if b then Err (Reserved word) else with_size word (size_in word) in
@@ -85,9 +85,9 @@ parts word port segment address size rep string input port_fits segment_fits add
       reserved = omega arith;
     }
 
-pub info_of-word_of : (i : IoInfo) → IsLawful i → info_of (word_of i) ≡ Ok i
+pub info_of-word_of : (i : IoInfo) → IsLawfulInfo i → info_of (info_word i) ≡ Ok i
 info_of-word_of i lawful =
-    let word : ℕ = word_of i in
+    let word : ℕ = info_word i in
     let size = size-bit i.size lawful.size in
     let address = address-bit i.address lawful.address in
     let p =
@@ -106,8 +106,8 @@ info_of-word_of i lawful =
     info_of-taken word i.size i.address (ap is_some p.reserved) sized addressed ∙ ap Ok same
 
 pub word_of-taken : (word size address : ℕ) → word < 2 ^ 64
-    → has_reserved word ≡ false → size_in word ≡ Some size → address_in word ≡ Some address
-    → IsWordOf (taken word size address) word
+    → has_reserved word ≡ false → size_in word ≡ Some size → address_size_in word ≡ Some address
+    → IsInfoWord (taken word size address) word
 word_of-taken word size address small clear sized addressed =
     let zero : sum_by (number_in word) layout.reserved ≡ 0 = grind (arith, common_steps) in
     let s = one_bit_of-Some 8 (number_in word layout.size) size sized in

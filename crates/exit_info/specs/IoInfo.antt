@@ -3,7 +3,7 @@ use Rattle.std.specs.Prelude.{◌≡◌, ℕ, ◌+◌, ◌*◌, ◌/◌, ◌^◌
 use Rattle.exit_info.specs.declared.io_info.IoInfo.{IoInfo}
 use Rattle.exit_info.specs.declared.io_info.BadInfo.{BadInfo}
 use Rattle.exit_info.specs.declared.io_info.BadInfo.TheVariants.{Reserved, BadSize, BadAddress}
-use Rattle.exit_info.specs.Bits.{Bits, bits, number_in, placed}
+use Rattle.word_bits.specs.Bits.{Bits, bits, number_in, placed}
 
 -- where each part of the word stands
 pub record Layout : Type 0 where
@@ -34,21 +34,22 @@ abbrev pub flag : Bool → ℕ
 flag b = if b then 1 else 0
 
 -- what an info can say
-pub record IsLawful (i : IoInfo) : Type 0 where
+pub record IsLawfulInfo (i : IoInfo) : Type 0 where
   pub size : (i.size ≡ 8) ⊎ (i.size ≡ 16) ⊎ (i.size ≡ 32)
   pub address : (i.address ≡ 16) ⊎ (i.address ≡ 32) ⊎ (i.address ≡ 64)
   pub segment : i.segment < 8
   pub port : i.port < 2 ^ 16
 
 -- the word of an info: a size in bytes and an address size in units of 16 bits are one bit of three
-abbrev pub word_of : IoInfo → ℕ
-word_of i =
-    placed layout.port i.port + placed layout.segment i.segment + placed layout.address (i.address / 16) + placed layout.size (i.size / 8)
+abbrev pub info_word : IoInfo → ℕ
+info_word i =
+    placed layout.port i.port + placed layout.segment i.segment + placed layout.address (i.address / 16)
+    + placed layout.size (i.size / 8)
     + placed layout.rep (flag i.rep) + placed layout.string (flag i.string) + placed layout.input (flag i.input)
 
 -- the word is the info's
-abbrev pub IsWordOf : IoInfo → ℕ → Type 0
-IsWordOf i word = IsLawful i × (word_of i ≡ word)
+abbrev pub IsInfoWord : IoInfo → ℕ → Type 0
+IsInfoWord i word = IsLawfulInfo i × (info_word i ≡ word)
 
 -- what stands for the one bit that is set of three, in multiples of a unit
 abbrev pub one_bit_of : ℕ → ℕ → Option ℕ
@@ -57,8 +58,8 @@ one_bit_of unit number = if number == 1 || number == 2 || number == 4 then Some 
 abbrev pub size_in : ℕ → Option ℕ
 size_in word = one_bit_of 8 (number_in word layout.size)
 
-abbrev pub address_in : ℕ → Option ℕ
-address_in word = one_bit_of 16 (number_in word layout.address)
+abbrev pub address_size_in : ℕ → Option ℕ
+address_size_in word = one_bit_of 16 (number_in word layout.address)
 
 -- whether a reserved bit is set
 abbrev pub has_reserved : ℕ → Bool
@@ -82,7 +83,7 @@ with_address word size (Some address) = Ok (taken word size address)
 
 abbrev pub with_size : ℕ → Option ℕ → Result IoInfo BadInfo
 with_size word None = Err (BadSize word)
-with_size word (Some size) = with_address word size (address_in word)
+with_size word (Some size) = with_address word size (address_size_in word)
 
 -- what a word is read as: the reserved bits are tested first, then the size, then the address size
 abbrev pub info_of : ℕ → Result IoInfo BadInfo

@@ -1,4 +1,3 @@
-pub mod Bits
 pub mod ExitCode
 pub mod Inject
 pub mod IoInfo

@@ -1,6 +1,6 @@
 ghost use Rattle.std.specs.Prelude.{◌≡◌, ◌==◌, ◌↔◌};
 ghost use Rattle.std.specs.List.{find};
-ghost use Rattle.exit_info.specs.ExitCode.{code_of, event_of};
+ghost use Rattle.exit_info.specs.ExitCode.{number_of_code, exit_code_of};
 
 /// The event for which a guest exits, in SW_EXITCODE (AMD 56421, the non-automatic exits).
 ///
@@ -20,6 +20,7 @@ pub enum ExitCode {
 }
 
 impl ExitCode {
+    /// Each event once, in the order of the codes.
     const ALL: [ExitCode; 10] = [
         ExitCode::Rdtsc,
         ExitCode::Rdpmc,
@@ -35,15 +36,15 @@ impl ExitCode {
 
     /// Reads the event whose code the word is.
     pub fn read(word: u64) -> Result<ExitCode, UnknownCode>
-        ensures value { result ≡ event_of word }
-        ensures ok { (event : ExitCode) → (result ≡ Ok event) ↔ (code_of event ≡ word) }
+        ensures value { result ≡ exit_code_of word }
+        ensures ok { (event : ExitCode) → (result ≡ Ok event) ↔ (number_of_code event ≡ word) }
     {
         event_in(&ExitCode::ALL, word).ok_or(UnknownCode(word))
     }
 
     /// The event's code.
     pub fn write(&self) -> u64
-        ensures value { result ≡ code_of self.now }
+        ensures value { result ≡ number_of_code self.now }
     {
         match self {
             ExitCode::Rdtsc => 0x6E,
@@ -62,7 +63,7 @@ impl ExitCode {
 
 /// The first of these events whose code the word is.
 fn event_in(events: &[ExitCode], word: u64) -> Option<ExitCode>
-    ensures { result ≡ find (λ event. code_of event == word) events.now }
+    ensures { result ≡ find (λ event. number_of_code event == word) events.now }
 {
     events.iter().copied().find(|event| event.write() == word)
 }

@@ -1,12 +1,16 @@
-ghost use Rattle.std.specs.Prelude.{◌≡◌, ◌==◌, if◌then◌else◌};
-ghost use Rattle.exit_info.specs.Bits.{number_in};
-ghost use Rattle.exit_info.specs.Inject.{IsLawful, layout, word_of, request_of};
+ghost use Rattle.std.specs.Prelude.{◌≡◌, ◌==◌, ◌↔◌, if◌then◌else◌};
+ghost use Rattle.word_bits.specs.Bits.{number_in};
+ghost use Rattle.exit_info.specs.Inject.{IsLawfulInject, IsRequestFor, layout, inject_word, request_of};
+
+use word_bits::number_in_bits;
 
 /// An exception that a hypervisor asks for in SW_EXITINFO2 (APM volume 2, 15.20): #UD, vector 6,
 /// without an error code, or #GP, vector 13, with one.
 #[derive(Clone, Copy, Debug, PartialEq, Eq)]
 pub struct Inject {
+    /// The exception's vector: 6 or 13 where it is lawful.
     pub vector: u8,
+    /// Its error code, 0 where it has none.
     pub code: u32,
 }
 
@@ -22,8 +26,13 @@ pub enum BadInject {
 }
 
 impl Inject {
+    /// The type of an exception.
+    const EXCEPTION: u64 = 3;
+
+    /// The vector of #UD.
     const UNDEFINED_OPCODE: u8 = 6;
 
+    /// The vector of #GP.
     const GENERAL_PROTECTION: u8 = 13;
 
     /// Reads a word: the valid bit is tested first, then the type, then the vector.
@@ -31,14 +40,15 @@ impl Inject {
     /// #GP takes the error code that bit 11 marks as valid, or 0, and #UD takes none.
     pub fn read(word: u64) -> Result<Inject, BadInject>
         ensures value { result ≡ request_of word }
+        ensures ok { (i : Inject) → (result ≡ Ok i) ↔ IsRequestFor i word }
     {
-        if word >> 31 & 1 == 0 {
+        if number_in_bits(word, 31, 31) == 0 {
             return Err(BadInject::NotValid(word));
         }
-        if word >> 8 & 7 != 3 {
+        if number_in_bits(word, 10, 8) != Self::EXCEPTION {
             return Err(BadInject::BadType(word));
         }
-        let vector = (word & 0xFF) as u8;
+        let vector = number_in_bits(word, 7, 0) as u8;
         match vector {
             Self::UNDEFINED_OPCODE => Ok(Inject { vector, code: 0 }),
             Self::GENERAL_PROTECTION => Ok(Inject {
@@ -51,8 +61,8 @@ impl Inject {
 
     /// The word that asks for a lawful exception.
     pub fn write(&self) -> u64
-        requires { IsLawful self.now }
-        ensures word { result ≡ word_of self.now }
+        requires { IsLawfulInject self.now }
+        ensures word { result ≡ inject_word self.now }
         ensures reads_back { request_of result ≡ Ok self.now }
     {
         if self.vector == Self::GENERAL_PROTECTION {
@@ -67,8 +77,8 @@ impl Inject {
 fn marked_code(word: u64) -> u32
     ensures { result ≡ (if number_in word layout.has_code == 1 then number_in word layout.code else 0) }
 {
-    if word >> 11 & 1 == 1 {
-        (word >> 32) as u32
+    if number_in_bits(word, 11, 11) == 1 {
+        number_in_bits(word, 63, 32) as u32
     } else {
         0
     }

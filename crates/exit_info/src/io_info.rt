@@ -1,10 +1,13 @@
 ghost use Rattle.std.specs.Prelude.{◌≡◌, ◌↔◌};
-ghost use Rattle.exit_info.specs.IoInfo.{IsLawful, IsWordOf, word_of, has_reserved as has_reserved_bits, size_in as size_in_word, address_in as address_in_word, info_of};
+ghost use Rattle.exit_info.specs.IoInfo.{IsLawfulInfo, IsInfoWord, info_word, has_reserved as has_reserved_bits, size_in as size_in_word, address_size_in as address_in_word, info_of};
+
+use word_bits::number_in_bits;
 
 /// One access to an I/O port, or one block of accesses, as SW_EXITINFO1 describes it (AMD 56421,
 /// IOIO_PROT; APM volume 2, 15.10.2).
 #[derive(Clone, Copy, Debug, PartialEq, Eq)]
 pub struct IoInfo {
+    /// The number of the port.
     pub port: u16,
     /// Whether the guest reads the port: IN or INS.
     pub input: bool,
@@ -35,7 +38,7 @@ impl IoInfo {
     /// Reads a word: the reserved bits are tested first, then the size, then the address size.
     pub fn read(word: u64) -> Result<IoInfo, BadInfo>
         ensures value { result ≡ info_of word }
-        ensures ok { (i : IoInfo) → (result ≡ Ok i) ↔ IsWordOf i word }
+        ensures ok { (i : IoInfo) → (result ≡ Ok i) ↔ IsInfoWord i word }
     {
         if has_reserved(word) {
             return Err(BadInfo::Reserved(word));
@@ -43,20 +46,20 @@ impl IoInfo {
         let size = size_in(word).ok_or(BadInfo::BadSize(word))?;
         let address = address_in(word).ok_or(BadInfo::BadAddress(word))?;
         Ok(IoInfo {
-            port: (word >> 16 & 0xFFFF) as u16,
-            input: word & 1 != 0,
-            string: word >> 2 & 1 != 0,
-            rep: word >> 3 & 1 != 0,
+            port: number_in_bits(word, 31, 16) as u16,
+            input: number_in_bits(word, 0, 0) != 0,
+            string: number_in_bits(word, 2, 2) != 0,
+            rep: number_in_bits(word, 3, 3) != 0,
             size,
             address,
-            segment: (word >> 10 & 7) as u8,
+            segment: number_in_bits(word, 12, 10) as u8,
         })
     }
 
     /// The word of a lawful access.
     pub fn write(&self) -> u64
-        requires { IsLawful self.now }
-        ensures word { result ≡ word_of self.now }
+        requires { IsLawfulInfo self.now }
+        ensures word { result ≡ info_word self.now }
         ensures reads_back { info_of result ≡ Ok self.now }
     {
         u64::from(self.port) << 16
@@ -73,14 +76,16 @@ impl IoInfo {
 fn has_reserved(word: u64) -> bool
     ensures { result ≡ has_reserved_bits word }
 {
-    word >> 1 & 1 != 0 || word >> 13 & 7 != 0 || word >> 32 != 0
+    number_in_bits(word, 1, 1) != 0
+        || number_in_bits(word, 15, 13) != 0
+        || number_in_bits(word, 63, 32) != 0
 }
 
 /// The size that bits 6:4 stand for, if exactly one of them is set.
 fn size_in(word: u64) -> Option<u8>
     ensures { result ≡ size_in_word word }
 {
-    match word >> 4 & 7 {
+    match number_in_bits(word, 6, 4) {
         1 => Some(8),
         2 => Some(16),
         4 => Some(32),
@@ -92,7 +97,7 @@ fn size_in(word: u64) -> Option<u8>
 fn address_in(word: u64) -> Option<u8>
     ensures { result ≡ address_in_word word }
 {
-    match word >> 7 & 7 {
+    match number_in_bits(word, 9, 7) {
         1 => Some(16),
         2 => Some(32),
         4 => Some(64),

@@ -3,11 +3,10 @@ use Rattle.std.proofs.Common.{◌≡◌, ℕ, ◌==◌, Bool, true, false, cond,
 use Rattle.std.proofs.lemmas.Bool.{eqb-true}
 use Rattle.std.specs.List.{find}
 use Rattle.std.specs.Option.{ok_or}
-use Rattle.ghcb_layout.specs.declared.field.TheConstants.{FIELDS}
 use Rattle.ghcb_layout.specs.declared.field.Field.{Field}
 use Rattle.ghcb_layout.specs.declared.field.Field.TheVariants.{Cpl}
 use Rattle.ghcb_layout.specs.declared.field.NotAField.{NotAField}
-use Rattle.ghcb_layout.specs.Field.{offset_of, field_from}
+use Rattle.ghcb_layout.specs.Field.{offset_of, all_fields, field_from}
 
 -- the test holds of what is found
 found-from : {X : Type 0} (b : Bool) (test : X → Bool) (y x : X) (more : Option X)
@@ -31,4 +30,4 @@ pub offset_of-field_from : (offset : ℕ) (field : Field) → field_from offset 
 offset_of-field_from offset field e =
     let test : Field → Bool = λ f. offset_of f == offset in
     let error : NotAField = record {} in
-    eqb-true (offset_of field) offset (found test FIELDS field (Ok-ok_or (find test FIELDS) error field e))
+    eqb-true (offset_of field) offset (found test all_fields field (Ok-ok_or (find test all_fields) error field e))

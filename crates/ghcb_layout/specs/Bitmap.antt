@@ -1,5 +1,5 @@
 -- The valid bitmap (AMD 56421, "GHCB Layout", VALID_BITMAP): bit k says that word k is filled in.
-use Rattle.std.specs.Prelude.{◌≡◌, ◌≢◌, ℕ, ◌+◌, ◌-◌, ◌*◌, ◌^◌, ◌%◌, ◌<◌, ◌==◌, nat_lt, Bool, true, if◌then◌else◌}
+use Rattle.std.specs.Prelude.{◌≡◌, ◌≢◌, ℕ, ◌+◌, ◌-◌, ◌*◌, ◌^◌, ◌%◌, ◌<◌, ◌==◌, nat_lt, Bool, true, if◌then◌else◌, List, [], ◌∷◌, sum_by}
 use Rattle.std.specs.Int.{bit_at}
 use Rattle.ghcb_layout.specs.declared.bitmap.Bitmap.{Bitmap}
 use Rattle.ghcb_layout.specs.declared.field.Field.{Field}
@@ -31,4 +31,18 @@ pub record Sets (old new : Bitmap) (k : ℕ) : Type 0 where
 
 -- a field's bit in its word of the bitmap, where it is wanted, and else 0
 abbrev pub bit_if : Field → Bool → ℕ
-bit_if field is = if is then 2 ^ (word_number field % 64) else 0
+bit_if field wanted = if wanted then 2 ^ (word_number field % 64) else 0
+
+-- a field's word with its value, where it is wanted
+abbrev pub word_if : Field → Bool → ℕ → List (ℕ × ℕ)
+word_if field wanted value = if wanted then (word_number field, value) ∷ [] else []
+
+-- the bitmap with exactly the bits of these words, each a number and a value: bit k stands for word k
+abbrev pub low_bits : List (ℕ × ℕ) → ℕ
+low_bits words = sum_by (λ w. if nat_lt w.0 64 then 2 ^ w.0 else 0) words
+
+abbrev pub high_bits : List (ℕ × ℕ) → ℕ
+high_bits words = sum_by (λ w. if nat_lt w.0 64 then 0 else 2 ^ (w.0 - 64)) words
+
+abbrev pub bitmap_of : List (ℕ × ℕ) → Bitmap
+bitmap_of words = record { low = low_bits words; high = high_bits words }

@@ -4,12 +4,6 @@ ghost use Rattle.ghcb_layout.specs.Bitmap.{has_bit, with_one as with_one_bit, wi
 
 use crate::field::{Field, bit_of};
 
-/// The number of the word that has bits 0 to 63.
-pub const BITMAP_LOW: u16 = 126;
-
-/// The number of the word that has bits 64 to 127.
-pub const BITMAP_HIGH: u16 = 127;
-
 /// The valid bitmap: bit k says that word k of the page is filled in.
 #[derive(Clone, Copy, Debug, PartialEq, Eq)]
 pub struct Bitmap {
@@ -67,10 +61,10 @@ impl Bitmap {
 }
 
 /// A field's bit in its word of the valid bitmap, where it is wanted, and else 0.
-pub fn bit_if(field: Field, is: bool) -> u64
-    ensures value { result ≡ bitmap.bit_if field is }
+pub fn bit_if(field: Field, wanted: bool) -> u64
+    ensures value { result ≡ bitmap.bit_if field wanted }
 {
-    if is { 1 << (bit_of(field) % 64) } else { 0 }
+    if wanted { 1 << (bit_of(field) % 64) } else { 0 }
 }
 
 /// The word with a bit set.

@@ -5,12 +5,6 @@
 //! protocol version and the usage of the page.
 #![tactic(auto)]
 
-pub use address::ghcb_of;
-pub use bitmap::{BITMAP_HIGH, BITMAP_LOW, Bitmap, bit_if};
-pub use bytes::{page_from_bytes, page_to_bytes};
-pub use field::{Field, NotAField, bit_of, field_at, name, offset, word_of};
-pub use protocol::{LAST_WORD, protocol_of, protocol_word};
-
 mod address;
 mod bitmap;
 mod bytes;
@@ -18,3 +12,9 @@ mod field;
 mod protocol;
 #[cfg(test)]
 mod tests;
+
+pub use address::ghcb_of;
+pub use bitmap::{Bitmap, bit_if};
+pub use bytes::{page_from_bytes, page_to_bytes};
+pub use field::{Field, NotAField, bit_of, field_at, name, offset, word_of};
+pub use protocol::{protocol_of, protocol_word};

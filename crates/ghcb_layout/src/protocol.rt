@@ -1,9 +1,6 @@
 ghost use Rattle.std.specs.Prelude.{◌≡◌};
 ghost use Rattle.ghcb_layout.specs.Protocol.{version_in, usage_in, word_with};
 
-/// The number of the last word.
-pub const LAST_WORD: u16 = 511;
-
 /// The protocol version and the usage in word 511, whose bits 15:0 are ignored.
 pub fn protocol_of(word: u64) -> (u16, u32)
     ensures value { result ≡ (version_in word, usage_in word) }

@@ -1,6 +1,6 @@
 use crate::{
-    Bitmap, Field, LAST_WORD, NotAField, bit_if, bit_of, field_at, ghcb_of, name, offset,
-    page_from_bytes, page_to_bytes, protocol_of, protocol_word, word_of,
+    Bitmap, Field, NotAField, bit_if, bit_of, field_at, ghcb_of, name, offset, page_from_bytes,
+    page_to_bytes, protocol_of, protocol_word, word_of,
 };
 use page_words::Word;
 
@@ -73,10 +73,7 @@ fn a_page_of_bytes(rt: HostRuntime) {
     bytes[0xFFA] = 1;
     let page = page_from_bytes(&bytes);
     assert_eq!(rt; page.word(word_of(Field::Rax)), 0x8000_0000_0000_0048);
-    assert_eq!(rt;
-        protocol_of(page.word(Word::new(LAST_WORD).unwrap())),
-        (1, 0)
-    );
+    assert_eq!(rt; protocol_of(page.word(Word::LAST)), (1, 0));
     assert_eq!(rt; page.msr_word(), 0);
     let mut written = [0xFF; 4096];
     page_to_bytes(&page, &mut written);

@@ -4,13 +4,12 @@
 //! `write` are inverse: a word is read as a message exactly where it is that message's word.
 #![tactic(auto)]
 
-pub use msr_word::{BadMsr, MsrWord};
-pub use reading::read;
-pub use writing::write;
-
-mod bits;
 mod msr_word;
 mod reading;
 #[cfg(test)]
 mod tests;
 mod writing;
+
+pub use msr_word::{BadMsr, MsrWord};
+pub use reading::read;
+pub use writing::write;

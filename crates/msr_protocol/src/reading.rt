@@ -1,15 +1,15 @@
 ghost use Rattle.std.specs.Prelude.{◌≡◌, ◌↔◌, IfSome};
-ghost use Rattle.msr_protocol.specs.Bits.{number_in};
-ghost use Rattle.msr_protocol.specs.MsrWord.{IsWordOf, IsWordButReserved, message_of as message_of_word, reserved_set as reserved_set_in, read_of};
+ghost use Rattle.word_bits.specs.Bits.{bits, number_in};
+ghost use Rattle.msr_protocol.specs.MsrWord.{IsMsrWord, IsWordButReserved, message_of as message_of_word, reserved_set as reserved_set_in, read_of};
 
-use crate::bits::{bits_in_place, number_in_bits};
 use crate::{BadMsr, MsrWord};
+use word_bits::{bits_in_place, number_in_bits};
 
 /// Reads a word as a message: an unknown one is refused with its bits 11:0, and one with reserved
 /// bits set with these bits.
 pub fn read(word: u64) -> Result<MsrWord, BadMsr>
     ensures value { result ≡ read_of word }
-    ensures ok { (m : MsrWord) → (result ≡ Ok m) ↔ IsWordOf m word }
+    ensures ok { (m : MsrWord) → (result ≡ Ok m) ↔ IsMsrWord m word }
 {
     let msr = message_of(word).ok_or(BadMsr::UnknownInfo(info_of(word)))?;
     match reserved_set(&msr, word) {
@@ -20,7 +20,7 @@ pub fn read(word: u64) -> Result<MsrWord, BadMsr>
 
 /// Bits 11:0, which say what message a word is.
 fn info_of(word: u64) -> u16
-    ensures { result ≡ number_in word 11 0 }
+    ensures { result ≡ number_in word (bits 11 0) }
 {
     number_in_bits(word, 11, 0) as u16
 }

@@ -1,17 +1,35 @@
 -- Dialogues, one after another, and what they come to over a page that tells its words.
-use Rattle.std.proofs.Common.{◌≡◌, ℕ, Bool, true, false, List, [], ◌∷◌, ◌++◌, Some, refl, sym, ap, ◌∙◌, subst, rules}
-use Rattle.std.specs.Prelude.{IfSome, if◌then◌else◌, drop, slice_index, option_map}
+use Rattle.std.proofs.Common.{◌≡◌, ℕ, List, [], ◌∷◌, ◌++◌, Some, refl, sym, ap, ◌∙◌, subst, rules}
+use Rattle.std.specs.Prelude.{IfSome, drop, slice_index, option_map}
 use Rattle.page_words.specs.declared.item.Item.{Item}
 use Rattle.page_words.specs.declared.item.Item.TheVariants.{Store, Exit, Load, Msr}
-use Rattle.page_words.specs.Told.{Told, Kept, Makes, GivesAll, after, after_all, kept_after}
-use Rattle.page_words.specs.Programs.{Program, pure, loading, found, Reads, Follows}
-use Rattle.page_words.specs.Dialogue.{Dialogue, over, saying, asking, hearing, say, listen, ◌>>=◌, Goes, Runs, Opens, Begins_to, values_of, Begins, left_after, Taken, first, taken, found_in}
+use Rattle.page_words.specs.Told.{Told, Kept, Makes, GivesAll, told_after, told_after_all, kept_after}
+use Rattle.page_words.specs.Programs.{Program, pure, loading, reading, found}
+use Rattle.page_words.specs.Dialogue.{Dialogue, over, saying, asking, hearing, say, listen, ◌>>=◌, Follows, Runs, Reads, FollowsPart, RunsPart, values_of, IsPrefix, Taken, first, answered_by}
+use Rattle.page_words.proofs.Same.{listen_then}
 use Rattle.page_words.proofs.Making.{makes_then, makes_none}
 
+-- what a dialogue leaves: its value, and the page
+pub record Left (X : Type 0) : Type 0 where
+  pub value : X
+  pub page : Kept
+
+-- what it leaves of a page that keeps its words, and that nobody else changes
+abbrev pub found_in : {X : Type 0} → Dialogue X → Kept → Left X
+found_in (over x) k = record { value = x; page = k }
+found_in (saying item rest) k = found_in rest (kept_after k item)
+found_in (asking n next) k = found_in (next (slice_index k.words n)) k
+found_in (hearing next) k = found_in (next k.msr) k
+
+-- the words that are left when the values have come out
+abbrev pub left_after : List ℕ → List ℕ → List ℕ
+left_after [] words = words
+left_after (value ∷ values) words = left_after values (drop 1 words)
+
 -- what goes on after a dialogue
-goes_then : {X Y : Type 0} (f : Dialogue X) (g : X → Dialogue Y) (xs ys : List Item) (x : X) (y : Y) → Goes f xs x → Goes (g x) ys y → Goes (f >>= g) (xs ++ ys) y
+goes_then : {X Y : Type 0} (f : Dialogue X) (g : X → Dialogue Y) (xs ys : List Item) (x : X) (y : Y) → Follows f xs x → Follows (g x) ys y → Follows (f >>= g) (xs ++ ys) y
 unfolding ◌>>=◌
-goes_then (over z) g [] ys x y one two = subst (λ w. Goes (g w) ys y) (sym one) two
+goes_then (over z) g [] ys x y one two = subst (λ w. Follows (g w) ys y) (sym one) two
 goes_then (over z) g (_ ∷ _) ys x y one two = absurd one
 goes_then (saying said rest) g [] ys x y one two = absurd one
 goes_then (saying said rest) g (Store n v ∷ xs) ys x y one two = (one.0, goes_then rest g xs ys x y one.1 two)
@@ -29,17 +47,7 @@ goes_then (hearing next) g (Exit v ∷ xs) ys x y one two = absurd one
 goes_then (hearing next) g (Load m v ∷ xs) ys x y one two = absurd one
 goes_then (hearing next) g (Msr v ∷ xs) ys x y one two = goes_then (next v) g xs ys x y one two
 
-goes_listen : {X Y : Type 0} (p : Program X) (g : X → Dialogue Y) (xs ys : List Item) (x : X) (y : Y) → Follows p xs x → Goes (g x) ys y → Goes (listen p g) (xs ++ ys) y
-unfolding listen
-goes_listen (pure z) g [] ys x y one two = subst (λ w. Goes (g w) ys y) (sym one) two
-goes_listen (pure z) g (_ ∷ _) ys x y one two = absurd one
-goes_listen (loading n next) g [] ys x y one two = absurd one
-goes_listen (loading n next) g (Load m v ∷ xs) ys x y one two = (one.0, goes_listen (next v) g xs ys x y one.1 two)
-goes_listen (loading n next) g (Store m v ∷ xs) ys x y one two = absurd one
-goes_listen (loading n next) g (Exit v ∷ xs) ys x y one two = absurd one
-goes_listen (loading n next) g (Msr v ∷ xs) ys x y one two = absurd one
-
-goes_say : {X : Type 0} (said items : List Item) (rest : Dialogue X) (x : X) → values_of said ≡ [] → Goes rest items x → Goes (say said rest) (said ++ items) x
+goes_say : {X : Type 0} (said items : List Item) (rest : Dialogue X) (x : X) → values_of said ≡ [] → Follows rest items x → Follows (say said rest) (said ++ items) x
 unfolding say
 goes_say [] items rest x silent goes = goes
 goes_say (Store n v ∷ said) items rest x silent goes = (refl, goes_say said items rest x silent goes)
@@ -58,22 +66,6 @@ runs_say said rest x t u v silent makes runs = record {
   goes = goes_say said runs.items rest x silent runs.goes;
 }
 
--- the MSR is read, and then the rest with what came
-pub runs_hear : {X : Type 0} (value : ℕ) (next : ℕ → Dialogue X) (x : X) (t u v : Told) → Makes t (Msr value ∷ []) u → Runs (next value) x u v → Runs (hearing next) x t v
-runs_hear value next x t u v makes runs = record {
-  items = Msr value ∷ [] ++ runs.items;
-  makes = makes_then t u v (Msr value ∷ []) runs.items makes runs.makes;
-  goes = runs.goes;
-}
-
--- a program is read, and then the rest with its value
-pub runs_listen : {X Y : Type 0} (p : Program X) (g : X → Dialogue Y) (x : X) (y : Y) (t u v : Told) → Reads p x t u → Runs (g x) y u v → Runs (listen p g) y t v
-runs_listen p g x y t u v reads runs = record {
-  items = reads.items ++ runs.items;
-  makes = makes_then t u v reads.items runs.items reads.makes runs.makes;
-  goes = goes_listen p g reads.items runs.items x y reads.follows runs.goes;
-}
-
 pub runs_then : {X Y : Type 0} (f : Dialogue X) (g : X → Dialogue Y) (x : X) (y : Y) (t u v : Told) → Runs f x t u → Runs (g x) y u v → Runs (f >>= g) y t v
 runs_then f g x y t u v one two = record {
   items = one.items ++ two.items;
@@ -81,14 +73,17 @@ runs_then f g x y t u v one two = record {
   goes = goes_then f g one.items two.items x y one.goes two.goes;
 }
 
-pub runs_true : {X : Type 0} (b : Bool) (f g : Dialogue X) (x : X) (t u : Told) → b ≡ true → Runs f x t u → Runs (if b then f else g) x t u
-runs_true b f g x t u is runs = rw is runs
+-- a program, and then what its value leads to, is the program as a dialogue and then that
+listen_over : {X Y : Type 0} (p : Program X) (g : X → Dialogue Y) → listen p (λ x. over x) >>= g ≡ listen p g
+unfolding ◌>>=◌
+listen_over p g = listen_then p (λ x. over x) g
 
-pub runs_false : {X : Type 0} (b : Bool) (f g : Dialogue X) (x : X) (t u : Told) → b ≡ false → Runs g x t u → Runs (if b then f else g) x t u
-runs_false b f g x t u is runs = rw is runs
+-- a program is read, and then the rest with its value
+pub runs_listen : {X Y : Type 0} (p : Program X) (g : X → Dialogue Y) (x : X) (y : Y) (t u v : Told) → Reads p x t u → Runs (g x) y u v → Runs (listen p g) y t v
+runs_listen p g x y t u v reads runs = subst (λ (d : Dialogue _). Runs d y t v) (listen_over p g) (runs_then (listen p (λ x. over x)) g x y t u v reads runs)
 
 -- a first part of one dialogue, and one whole with a first part of the next
-opens_within : {X Y : Type 0} (f : Dialogue X) (g : X → Dialogue Y) (xs : List Item) → Opens f xs → Opens (f >>= g) xs
+opens_within : {X Y : Type 0} (f : Dialogue X) (g : X → Dialogue Y) (xs : List Item) → FollowsPart f xs → FollowsPart (f >>= g) xs
 unfolding ◌>>=◌
 opens_within f g [] opens = tt
 opens_within (over z) g (_ ∷ _) opens = absurd opens
@@ -105,9 +100,9 @@ opens_within (hearing next) g (Exit v ∷ xs) opens = absurd opens
 opens_within (hearing next) g (Load m v ∷ xs) opens = absurd opens
 opens_within (hearing next) g (Msr v ∷ xs) opens = opens_within (next v) g xs opens
 
-opens_after : {X Y : Type 0} (f : Dialogue X) (g : X → Dialogue Y) (xs ys : List Item) (x : X) → Goes f xs x → Opens (g x) ys → Opens (f >>= g) (xs ++ ys)
+opens_after : {X Y : Type 0} (f : Dialogue X) (g : X → Dialogue Y) (xs ys : List Item) (x : X) → Follows f xs x → FollowsPart (g x) ys → FollowsPart (f >>= g) (xs ++ ys)
 unfolding ◌>>=◌
-opens_after (over z) g [] ys x one two = subst (λ w. Opens (g w) ys) (sym one) two
+opens_after (over z) g [] ys x one two = subst (λ w. FollowsPart (g w) ys) (sym one) two
 opens_after (over z) g (_ ∷ _) ys x one two = absurd one
 opens_after (saying said rest) g [] ys x one two = absurd one
 opens_after (saying said rest) g (Store n v ∷ xs) ys x one two = (one.0, opens_after rest g xs ys x one.1 two)
@@ -125,7 +120,7 @@ opens_after (hearing next) g (Exit v ∷ xs) ys x one two = absurd one
 opens_after (hearing next) g (Load m v ∷ xs) ys x one two = absurd one
 opens_after (hearing next) g (Msr v ∷ xs) ys x one two = opens_after (next v) g xs ys x one two
 
-opens_say : {X : Type 0} (said items : List Item) (rest : Dialogue X) → values_of said ≡ [] → Opens rest items → Opens (say said rest) (said ++ items)
+opens_say : {X : Type 0} (said items : List Item) (rest : Dialogue X) → values_of said ≡ [] → FollowsPart rest items → FollowsPart (say said rest) (said ++ items)
 unfolding say
 opens_say [] items rest silent opens = opens
 opens_say (Store n v ∷ said) items rest silent opens = (refl, opens_say said items rest silent opens)
@@ -134,42 +129,28 @@ opens_say (Load n v ∷ said) items rest silent opens = cc
 opens_say (Msr v ∷ said) items rest silent opens = cc
 
 -- nothing is made yet
-pub begins_none : {X : Type 0} (f : Dialogue X) (t : Told) → Begins_to f t t
+pub begins_none : {X : Type 0} (f : Dialogue X) (t : Told) → RunsPart f t t
 begins_none f t = record { items = []; makes = makes_none t; opens = tt }
 
-pub begins_within : {X Y : Type 0} (f : Dialogue X) (g : X → Dialogue Y) (t u : Told) → Begins_to f t u → Begins_to (f >>= g) t u
+pub begins_within : {X Y : Type 0} (f : Dialogue X) (g : X → Dialogue Y) (t u : Told) → RunsPart f t u → RunsPart (f >>= g) t u
 begins_within f g t u begun = record { items = begun.items; makes = begun.makes; opens = opens_within f g begun.items begun.opens }
 
-pub begins_after : {X Y : Type 0} (f : Dialogue X) (g : X → Dialogue Y) (x : X) (t u v : Told) → Runs f x t u → Begins_to (g x) u v → Begins_to (f >>= g) t v
+pub begins_after : {X Y : Type 0} (f : Dialogue X) (g : X → Dialogue Y) (x : X) (t u v : Told) → Runs f x t u → RunsPart (g x) u v → RunsPart (f >>= g) t v
 begins_after f g x t u v one two = record {
   items = one.items ++ two.items;
   makes = makes_then t u v one.items two.items one.makes two.makes;
   opens = opens_after f g one.items two.items x one.goes two.opens;
 }
 
-pub begins_say : {X : Type 0} (said : List Item) (rest : Dialogue X) (t u v : Told) → values_of said ≡ [] → Makes t said u → Begins_to rest u v → Begins_to (say said rest) t v
+pub begins_say : {X : Type 0} (said : List Item) (rest : Dialogue X) (t u v : Told) → values_of said ≡ [] → Makes t said u → RunsPart rest u v → RunsPart (say said rest) t v
 begins_say said rest t u v silent makes begun = record {
   items = said ++ begun.items;
   makes = makes_then t u v said begun.items makes begun.makes;
   opens = opens_say said begun.items rest silent begun.opens;
 }
 
--- the MSR is read, and then a first part of the rest
-pub begins_hear : {X : Type 0} (value : ℕ) (next : ℕ → Dialogue X) (t u v : Told) → Makes t (Msr value ∷ []) u → Begins_to (next value) u v → Begins_to (hearing next) t v
-begins_hear value next t u v makes begun = record {
-  items = Msr value ∷ [] ++ begun.items;
-  makes = makes_then t u v (Msr value ∷ []) begun.items makes begun.makes;
-  opens = begun.opens;
-}
-
-pub begins_true : {X : Type 0} (b : Bool) (f g : Dialogue X) (t u : Told) → b ≡ true → Begins_to f t u → Begins_to (if b then f else g) t u
-begins_true b f g t u is begun = rw is begun
-
-pub begins_false : {X : Type 0} (b : Bool) (f g : Dialogue X) (t u : Told) → b ≡ false → Begins_to g t u → Begins_to (if b then f else g) t u
-begins_false b f g t u is begun = rw is begun
-
 -- values begin with themselves
-pub begins_self : (values : List ℕ) → Begins values values
+pub begins_self : (values : List ℕ) → IsPrefix values values
 begins_self [] = tt
 begins_self (v ∷ vs) = (refl, begins_self vs)
 
@@ -177,8 +158,8 @@ abbrev done : {X : Type 0} → List Item → X → List ℕ → Taken X
 done items x words = record { items = items; value = x; rest = left_after (values_of items) words }
 
 -- What was said and heard is what the dialogue takes of any words that begin with the values that came out.
-pub goes_taken : {X : Type 0} (d : Dialogue X) (items : List Item) (x : X) (words : List ℕ) → Goes d items x → Begins (values_of items) words →
-    taken d words ≡ record { items = items; value = x; rest = left_after (values_of items) words }
+pub goes_taken : {X : Type 0} (d : Dialogue X) (items : List Item) (x : X) (words : List ℕ) → Follows d items x → IsPrefix (values_of items) words →
+    answered_by d words ≡ record { items = items; value = x; rest = left_after (values_of items) words }
 goes_taken (over z) [] x words goes begins = ap (λ y. done [] y words) goes
 goes_taken (over z) (_ ∷ _) x words goes begins = absurd goes
 goes_taken (saying said rest) [] x words goes begins = absurd goes
@@ -192,7 +173,7 @@ goes_taken (asking n next) [] x words goes begins = absurd goes
 goes_taken (asking n next) (Store m v ∷ items) x words goes begins = absurd goes
 goes_taken (asking n next) (Exit v ∷ items) x words goes begins = absurd goes
 goes_taken (asking n next) (Load m v ∷ items) x words goes begins =
-    ap (λ w. first (Load n w) (taken (next w) (drop 1 words))) (sym begins.0)
+    ap (λ w. first (Load n w) (answered_by (next w) (drop 1 words))) (sym begins.0)
     ∙ ap (λ (t : Taken _). first (Load n v) t) (goes_taken (next v) items x (drop 1 words) goes.1 begins.1)
     ∙ ap (λ k. first (Load k v) (done items x (drop 1 words))) goes.0
 goes_taken (asking n next) (Msr v ∷ items) x words goes begins = absurd goes
@@ -201,61 +182,39 @@ goes_taken (hearing next) (Store m v ∷ items) x words goes begins = absurd goe
 goes_taken (hearing next) (Exit v ∷ items) x words goes begins = absurd goes
 goes_taken (hearing next) (Load m v ∷ items) x words goes begins = absurd goes
 goes_taken (hearing next) (Msr v ∷ items) x words goes begins =
-    ap (λ w. first (Msr w) (taken (next w) (drop 1 words))) (sym begins.0)
+    ap (λ w. first (Msr w) (answered_by (next w) (drop 1 words))) (sym begins.0)
     ∙ ap (λ (t : Taken _). first (Msr v) t) (goes_taken (next v) items x (drop 1 words) goes begins.1)
 
 -- what a page that tells what is ahead gives, what is ahead begins with
-pub begins_ahead : (t : Told) (items : List Item) (words : List ℕ) → t.ahead ≡ Some words → GivesAll t items → Begins (values_of items) words
+pub begins_ahead : (t : Told) (items : List Item) (words : List ℕ) → t.ahead ≡ Some words → GivesAll t items → IsPrefix (values_of items) words
 begins_ahead t [] words ahead gives = tt
-begins_ahead t (Store word value ∷ items) words ahead gives = begins_ahead (after t (Store word value)) items words ahead gives.1
-begins_ahead t (Exit value ∷ items) words ahead gives = begins_ahead (after t (Exit value)) items words ahead gives.1
+begins_ahead t (Store word value ∷ items) words ahead gives = begins_ahead (told_after t (Store word value)) items words ahead gives.1
+begins_ahead t (Exit value ∷ items) words ahead gives = begins_ahead (told_after t (Exit value)) items words ahead gives.1
 begins_ahead t (Load word value ∷ items) words ahead gives =
-    (subst (λ o. IfSome o (λ ws. value ≡ slice_index ws 0)) ahead gives.0.1, begins_ahead (after t (Load word value)) items (drop 1 words) (search (rules, ahead)) gives.1)
+    (subst (λ o. IfSome o (λ ws. value ≡ slice_index ws 0)) ahead gives.0.1, begins_ahead (told_after t (Load word value)) items (drop 1 words) (search (rules, ahead)) gives.1)
 begins_ahead t (Msr value ∷ items) words ahead gives =
-    (subst (λ o. IfSome o (λ ws. value ≡ slice_index ws 0)) ahead gives.0.1, begins_ahead (after t (Msr value)) items (drop 1 words) (search (rules, ahead)) gives.1)
-
--- what is ahead is dropped word by word
-pub ahead-after_all : (t : Told) (items : List Item) (words : List ℕ) → t.ahead ≡ Some words → (after_all t items).ahead ≡ Some (left_after (values_of items) words)
-ahead-after_all t [] words ahead = ahead
-ahead-after_all t (Store word value ∷ items) words ahead = ahead-after_all (after t (Store word value)) items words ahead
-ahead-after_all t (Exit value ∷ items) words ahead = ahead-after_all (after t (Exit value)) items words ahead
-ahead-after_all t (Load word value ∷ items) words ahead = ahead-after_all (after t (Load word value)) items (drop 1 words) (search (rules, ahead))
-ahead-after_all t (Msr value ∷ items) words ahead = ahead-after_all (after t (Msr value)) items (drop 1 words) (search (rules, ahead))
+    (subst (λ o. IfSome o (λ ws. value ≡ slice_index ws 0)) ahead gives.0.1, begins_ahead (told_after t (Msr value)) items (drop 1 words) (search (rules, ahead)) gives.1)
 
 -- Where the page tells which words are ahead, the dialogue was held on these, and the words that it left are ahead.
 pub record On_ahead {X : Type 0} (d : Dialogue X) (x : X) (t u : Told) (words : List ℕ) (items : List Item) : Type 0 where
-  pub all : taken d words ≡ record { items = items; value = x; rest = left_after (values_of items) words }
-  pub made : items ≡ (taken d words).items
-  pub value : x ≡ (taken d words).value
-  pub left : u.ahead ≡ Some (taken d words).rest
+  pub all : answered_by d words ≡ record { items = items; value = x; rest = left_after (values_of items) words }
+  pub made : items ≡ (answered_by d words).items
+  pub value : x ≡ (answered_by d words).value
+  pub left : u.ahead ≡ Some (answered_by d words).rest
 
-pub runs_ahead : {X : Type 0} (d : Dialogue X) (x : X) (t u : Told) (words : List ℕ) → t.ahead ≡ Some words → (runs : Runs d x t u) → On_ahead d x t u words runs.items
-runs_ahead d x t u words ahead runs =
-    let all = goes_taken d runs.items x words runs.goes (begins_ahead t runs.items words ahead runs.makes.gives) in
-    record {
-      all = all;
-      made = ap (λ (k : Taken _). k.items) (sym all);
-      value = ap (λ (k : Taken _). k.value) (sym all);
-      left = ap (λ (w : Told). w.ahead) runs.makes.leaves ∙ ahead-after_all t runs.items words ahead ∙ ap (λ (k : Taken _). Some k.rest) (sym all);
-    }
-
--- the same of the values that came out
-pub runs_told : {X : Type 0} (d : Dialogue X) (x : X) (t u : Told) → (runs : Runs d x t u) → taken d (values_of runs.items) ≡ record { items = runs.items; value = x; rest = left_after (values_of runs.items) (values_of runs.items) }
-runs_told d x t u runs = goes_taken d runs.items x (values_of runs.items) runs.goes (begins_self (values_of runs.items))
-
-found_goes : {X : Type 0} (d : Dialogue X) (items : List Item) (x : X) (t : Told) (k : Kept) → t.kept ≡ Some k → GivesAll t items → Goes d items x →
-    (x ≡ (found_in d k).value) × ((after_all t items).kept ≡ Some (found_in d k).page)
+found_goes : {X : Type 0} (d : Dialogue X) (items : List Item) (x : X) (t : Told) (k : Kept) → t.kept ≡ Some k → GivesAll t items → Follows d items x →
+    (x ≡ (found_in d k).value) × ((told_after_all t items).kept ≡ Some (found_in d k).page)
 found_goes (over z) [] x t k kept gives goes = (sym goes, kept)
 found_goes (over z) (_ ∷ _) x t k kept gives goes = absurd goes
 found_goes (saying said rest) [] x t k kept gives goes = absurd goes
 found_goes (saying said rest) (Store n v ∷ items) x t k kept gives goes =
-    let stored : (after t (Store n v)).kept ≡ Some (kept_after k said) =
+    let stored : (told_after t (Store n v)).kept ≡ Some (kept_after k said) =
     ap (λ o. option_map (λ (p : Kept). kept_after p (Store n v)) o) kept ∙ ap (λ (i : Item). Some (kept_after k i)) (sym goes.0) in
-    found_goes rest items x (after t (Store n v)) (kept_after k said) stored gives.1 goes.1
+    found_goes rest items x (told_after t (Store n v)) (kept_after k said) stored gives.1 goes.1
 found_goes (saying said rest) (Exit v ∷ items) x t k kept gives goes =
-    let stored : (after t (Exit v)).kept ≡ Some (kept_after k said) =
+    let stored : (told_after t (Exit v)).kept ≡ Some (kept_after k said) =
     ap (λ o. option_map (λ (p : Kept). kept_after p (Exit v)) o) kept ∙ ap (λ (i : Item). Some (kept_after k i)) (sym goes.0) in
-    found_goes rest items x (after t (Exit v)) (kept_after k said) stored gives.1 goes.1
+    found_goes rest items x (told_after t (Exit v)) (kept_after k said) stored gives.1 goes.1
 found_goes (saying said rest) (Load m v ∷ items) x t k kept gives goes = absurd goes
 found_goes (saying said rest) (Msr v ∷ items) x t k kept gives goes = absurd goes
 found_goes (asking n next) [] x t k kept gives goes = absurd goes
@@ -264,8 +223,8 @@ found_goes (asking n next) (Exit v ∷ items) x t k kept gives goes = absurd goe
 found_goes (asking n next) (Load m v ∷ items) x t k kept gives goes =
     let read : v ≡ slice_index k.words m = subst (λ o. IfSome o (λ (p : Kept). v ≡ slice_index p.words m)) kept gives.0.0 in
     let here : v ≡ slice_index k.words n = read ∙ ap (λ j. slice_index k.words j) (sym goes.0) in
-    subst (λ w. (x ≡ (found_in (next w) k).value) × ((after_all (after t (Load m v)) items).kept ≡ Some (found_in (next w) k).page)) here
-    (found_goes (next v) items x (after t (Load m v)) k kept gives.1 goes.1)
+    subst (λ w. (x ≡ (found_in (next w) k).value) × ((told_after_all (told_after t (Load m v)) items).kept ≡ Some (found_in (next w) k).page)) here
+    (found_goes (next v) items x (told_after t (Load m v)) k kept gives.1 goes.1)
 found_goes (asking n next) (Msr v ∷ items) x t k kept gives goes = absurd goes
 found_goes (hearing next) [] x t k kept gives goes = absurd goes
 found_goes (hearing next) (Store m v ∷ items) x t k kept gives goes = absurd goes
@@ -273,8 +232,8 @@ found_goes (hearing next) (Exit v ∷ items) x t k kept gives goes = absurd goes
 found_goes (hearing next) (Load m v ∷ items) x t k kept gives goes = absurd goes
 found_goes (hearing next) (Msr v ∷ items) x t k kept gives goes =
     let here : v ≡ k.msr = subst (λ o. IfSome o (λ (p : Kept). v ≡ p.msr)) kept gives.0.0 in
-    subst (λ w. (x ≡ (found_in (next w) k).value) × ((after_all (after t (Msr v)) items).kept ≡ Some (found_in (next w) k).page)) here
-    (found_goes (next v) items x (after t (Msr v)) k kept gives.1 goes)
+    subst (λ w. (x ≡ (found_in (next w) k).value) × ((told_after_all (told_after t (Msr v)) items).kept ≡ Some (found_in (next w) k).page)) here
+    (found_goes (next v) items x (told_after t (Msr v)) k kept gives.1 goes)
 
 -- Where the page tells its words, the dialogue came to what it finds there, and left the page so.
 pub runs_kept : {X : Type 0} (d : Dialogue X) (x : X) (t u : Told) (k : Kept) → t.kept ≡ Some k → Runs d x t u → (x ≡ (found_in d k).value) × (u.kept ≡ Some (found_in d k).page)
@@ -283,7 +242,8 @@ runs_kept d x t u k kept runs =
     (found.0, ap (λ (w : Told). w.kept) runs.makes.leaves ∙ found.1)
 
 -- a program is read of a page that keeps its words as it stands
-pub found_listen : {X Y : Type 0} (p : Program X) (g : X → Dialogue Y) (k : Kept) → found_in (listen p g) k ≡ found_in (g (found p (λ n. slice_index k.words n))) k
+pub found_listen : {X Y : Type 0} (p : Program X) (g : X → Dialogue Y) (k : Kept) → found_in (listen p g) k ≡ found_in (g (found p (λ n. slice_index k.words n) k.msr)) k
 unfolding listen
 found_listen (pure x) g k = refl
 found_listen (loading n next) g k = found_listen (next (slice_index k.words n)) g k
+found_listen (reading next) g k = found_listen (next k.msr) g k

@@ -1,6 +1,6 @@
 pub mod Making
-pub mod Reading
+pub mod Same
 pub mod Dialogues
+pub mod Reading
 pub mod Keeping
 pub mod Records
-pub mod Same

@@ -2,8 +2,8 @@
 use Rattle.std.proofs.Common.{◌≡◌, ℕ, List, [], ◌∷◌, refl, ap, subst}
 use Rattle.page_words.specs.declared.item.Item.{Item}
 use Rattle.page_words.specs.declared.item.Item.TheVariants.{Store, Exit, Load, Msr}
-use Rattle.page_words.specs.Programs.{Program, pure, loading}
-use Rattle.page_words.specs.Dialogue.{Dialogue, over, saying, asking, hearing, say, listen, ◌>>=◌, Goes}
+use Rattle.page_words.specs.Programs.{Program, pure, loading, reading}
+use Rattle.page_words.specs.Dialogue.{Dialogue, over, saying, asking, hearing, say, listen, ◌>>=◌, Follows}
 
 -- functions with the same values are the same
 pub same_function : {A B : Type 0} (f g : A → B) → ((x : A) → f x ≡ g x) → f ≡ g
@@ -18,6 +18,7 @@ pub listen_then : {X Y Z : Type 0} (p : Program X) (f : X → Dialogue Y) (g : Y
 unfolding listen ◌>>=◌
 listen_then (pure x) f g = refl
 listen_then (loading n next) f g = ap (λ (h : ℕ → Dialogue _). asking n h) (same_function _ _ (λ v. listen_then (next v) f g))
+listen_then (reading next) f g = ap (λ (h : ℕ → Dialogue _). hearing h) (same_function _ _ (λ v. listen_then (next v) f g))
 
 pub listen_same : {X Y : Type 0} (p : Program X) (f g : X → Dialogue Y) → ((x : X) → f x ≡ g x) → listen p f ≡ listen p g
 listen_same p f g same = ap (λ (h : _ → Dialogue _). listen p h) (same_function f g same)
@@ -38,8 +39,9 @@ pub all_listen : {X Y : Type 0} (P : Y → Type 0) (p : Program X) (f : X → Di
 unfolding listen
 all_listen P (pure x) f all = all x
 all_listen P (loading n next) f all = λ v. all_listen P (next v) f all
+all_listen P (reading next) f all = λ v. all_listen P (next v) f all
 
-pub goes_all : {X : Type 0} (P : X → Type 0) (d : Dialogue X) (items : List Item) (x : X) → AllOf P d → Goes d items x → P x
+pub goes_all : {X : Type 0} (P : X → Type 0) (d : Dialogue X) (items : List Item) (x : X) → AllOf P d → Follows d items x → P x
 goes_all P (over z) [] x all goes = subst P goes all
 goes_all P (over z) (_ ∷ _) x all goes = absurd goes
 goes_all P (saying said rest) [] x all goes = absurd goes

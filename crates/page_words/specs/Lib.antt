@@ -1,5 +1,4 @@
 pub mod Told
 pub mod Programs
 pub mod Dialogue
-pub mod Stores
 pub mod Recording

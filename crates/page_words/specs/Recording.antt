@@ -11,7 +11,8 @@ pub record Recording (P : Type 0) : Type 0 where
 
 -- the items and the room are told here, and the rest as the page tells it
 abbrev pub recording : {P : Type 0} → (P → Told) → Recording P → Told
-recording told r = record { trace = Some r.items; spare = Some r.spare; kept = (told r.page).kept; ahead = (told r.page).ahead }
+recording told r =
+    record { trace = Some r.items; spare = Some r.spare; kept = (told r.page).kept; ahead = (told r.page).ahead }
 
 -- what is told, but for the room
 abbrev pub roomless : Told → Told

@@ -1,4 +1,3 @@
-// What a guest does on the page.
 use crate::Word;
 
 /// One call on a page, with the value that went in or came out.

@@ -1,4 +1,3 @@
-// A page that keeps the items that are made on it.
 ghost use Rattle.std.specs.Prelude.{◌≡◌, ◌≤◌, None, [], max, OnOk, OnErr};
 ghost use Rattle.page_words.specs.Recording.{recording, roomless};
 
@@ -79,26 +78,26 @@ impl<P: Page> Page for Recorded<P> {
 
     fn store(&mut self, word: Word, value: u64) {
         self.page.store(word, value);
-        let _ = self.items.push(Item::Store(word, value));
+        self.items.push_reserved(Item::Store(word, value));
         self.spare -= 1;
     }
 
     fn load(&mut self, word: Word) -> u64 {
         let value = self.page.load(word);
-        let _ = self.items.push(Item::Load(word, value));
+        self.items.push_reserved(Item::Load(word, value));
         self.spare -= 1;
         value
     }
 
     fn exit(&mut self, msr: u64) {
         self.page.exit(msr);
-        let _ = self.items.push(Item::Exit(msr));
+        self.items.push_reserved(Item::Exit(msr));
         self.spare -= 1;
     }
 
     fn msr(&mut self) -> u64 {
         let value = self.page.msr();
-        let _ = self.items.push(Item::Msr(value));
+        self.items.push_reserved(Item::Msr(value));
         self.spare -= 1;
         value
     }
@@ -110,6 +109,7 @@ mod tests {
     use crate::Words;
     use std::test::Fail;
 
+    /// A call of each kind: a page that keeps what is stored gives the value and the MSR word back.
     fn each_call<P: Page>(page: &mut Recorded<P>, word: Word) -> Result<u64, OutOfMemory> {
         page.reserve(4)?;
         page.store(word, 7);

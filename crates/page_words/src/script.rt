@@ -1,4 +1,3 @@
-// A page whose answers are written down beforehand.
 ghost use Rattle.std.specs.Prelude.{◌≡◌};
 ghost use Rattle.page_words.specs.Recording.{scripted};
 
@@ -13,7 +12,7 @@ pub struct Script {
     place: usize,
 }
 
-// The words that are left.
+/// The words that are left.
 impl Model for Script {
     ghost use Rattle.std.specs.Prelude.{List, ℕ, ◌≤◌, drop, vec_len};
 

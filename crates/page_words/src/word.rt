@@ -1,4 +1,3 @@
-// The number of a word of the page.
 ghost use Rattle.std.specs.Prelude.{◌≡◌, ◌<◌, SomeIff};
 
 use std::marker::Model;
@@ -22,6 +21,15 @@ impl Model for Word {
 }
 
 impl Word {
+    /// The word of the valid bitmap's bits 0 to 63 (AMD 56421, "GHCB Layout", VALID_BITMAP).
+    pub const BITMAP_LOW: Word = Word { number: 126 };
+
+    /// The word of the valid bitmap's bits 64 to 127.
+    pub const BITMAP_HIGH: Word = Word { number: 127 };
+
+    /// The last word, which has the protocol version and the usage.
+    pub const LAST: Word = Word { number: 511 };
+
     /// The word of that number; none where it is above 511.
     pub fn new(n: u16) -> Option<Word>
         ensures in_page { SomeIff result (n < 512) n }

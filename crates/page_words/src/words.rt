@@ -1,8 +1,8 @@
-// A page that keeps what is stored.
-ghost use Rattle.std.specs.Prelude.{◌≡◌, Some, None, length, replicate, slice_index};
+ghost use Rattle.std.specs.Prelude.{◌≡◌, ⊤, Some, None, length, replicate, slice_index};
 ghost use Rattle.page_words.specs.Told.{blank, keeping};
 
 use crate::{Page, Word};
+use std::alloc::AllocError as OutOfMemory;
 use std::marker::Model;
 
 /// 512 words of 64 bits and an MSR word, in memory: a load gives the value last stored.
@@ -54,6 +54,20 @@ impl Words {
     }
 }
 
+/// A copy has the same words and the same MSR word, and takes no memory.
+impl Clone for Words {
+    ghost is_clone = { λ page copy. copy ≡ page };
+
+    ghost is_infallible = { λ _. ⊤ };
+
+    fn clone(&self) -> Result<Words, OutOfMemory> {
+        Ok(Words {
+            words: self.words,
+            msr: self.msr,
+        })
+    }
+}
+
 impl Page for Words {
     ghost told = { keeping };
 
@@ -79,6 +93,7 @@ mod tests {
     use super::*;
     use std::test::Fail;
 
+    /// Stores a value through the trait, and loads it.
     fn round_trip<P: Page>(page: &mut P, word: Word) -> u64
         requires { (P.told page.old).spare ≡ None }
     {
@@ -97,6 +112,10 @@ mod tests {
         assert_eq!(rt; page.msr(), 0x8000_0000);
         page.set_msr(2);
         assert_eq!(rt; page.msr_word(), 2);
+        let copy = page.clone()?;
+        page.store(Word::LAST, 1);
+        assert_eq!(rt; copy.word(last), 0x0123_4567_89AB_CDEF);
+        assert_eq!(rt; copy.msr_word(), 2);
         Ok(())
     }
 }

@@ -13,7 +13,8 @@ lines_in bytes = div_ceil (length bytes) 17
 
 -- the word of line k, from 0: the digits from byte 17k on, where LF stands after sixteen of them
 abbrev pub word_of_line : List ℕ → ℕ → Option ℕ
-word_of_line bytes k = if slice_index bytes (17 * k + 16) == 10 then word_of_digits (take 16 (drop (17 * k) bytes)) else None
+word_of_line bytes k =
+    if slice_index bytes (17 * k + 16) == 10 then word_of_digits (take 16 (drop (17 * k) bytes)) else None
 
 -- the words of all lines, in order, where a line has one
 abbrev pub line_words : List ℕ → List (Option ℕ)
@@ -27,7 +28,7 @@ script_by None lines = Ok (filter_map (λ word. word) lines)
 abbrev pub script_of : List ℕ → Result (List ℕ) ℕ
 script_of bytes = script_by (position_from is_none 1 (line_words bytes)) (line_words bytes)
 
--- why a script can't be read: its first line that isn't so, or want of memory
-abbrev pub IsRefusal : Result (List ℕ) ℕ → ScriptError → Type 0
-IsRefusal script (Line fault) = script ≡ Err fault
-IsRefusal script OutOfMemory = Unit {0}
+-- why a script can't be read: its first line that isn't so; or memory is out, which may come of any file
+abbrev pub IsScriptRefusal : Result (List ℕ) ℕ → ScriptError → Type 0
+IsScriptRefusal script (Line fault) = script ≡ Err fault
+IsScriptRefusal script OutOfMemory = Unit {0}

@@ -1,6 +1,5 @@
-// A script file.
 ghost use Rattle.std.specs.Prelude.{◌≡◌, ◌*◌, ◌≤◌, Ok, length, IfOk, IfErr};
-ghost use Rattle.script_file.specs.Lines.{IsRefusal, script_of, word_of_line};
+ghost use Rattle.script_file.specs.Lines.{IsScriptRefusal, script_of, word_of_line};
 
 use show_text::word_from_hex;
 use std::alloc::Global;
@@ -17,7 +16,7 @@ pub enum ScriptError {
     OutOfMemory,
 }
 
-// The word of a line, counted from 0.
+/// The word of a line, counted from 0; none where the line isn't sixteen digits and LF.
 fn line_word(bytes: &[u8], line: usize) -> Option<u64>
     requires within { 17 * line ≤ length bytes.now }
     ensures word { result ≡ word_of_line bytes.now line }
@@ -30,21 +29,19 @@ fn line_word(bytes: &[u8], line: usize) -> Option<u64>
 }
 
 /// The words of a script file: each line is sixteen hexadecimal digits, in either case, and LF, the last
-/// one too. `Line` comes exactly where a line isn't so, with the first one; a rest of fewer bytes counts
-/// as a line, and an empty file has none.
+/// one too; a rest of fewer bytes counts as a line, and an empty file has none.
+///
+/// Words come only where every line is so. `Line` comes only where a line isn't so, and has the first one;
+/// where memory is out before that line is reached, `OutOfMemory` comes in its place.
 pub fn read_script(alloc: Global, bytes: &[u8]) -> Result<Vec<u64>, ScriptError>
     ensures words { IfOk result (λ words. script_of bytes.now ≡ Ok words.items) }
-    ensures refused { IfErr result (IsRefusal (script_of bytes.now)) }
+    ensures refused { IfErr result (IsScriptRefusal (script_of bytes.now)) }
 {
     let count = bytes.len().div_ceil(LINE);
     let mut words = Vec::new(alloc);
     'lines: for line in 0..count {
-        let Some(word) = line_word(bytes, line) else {
-            return Err(ScriptError::Line(line as u64 + 1));
-        };
-        if words.push(word).is_err() {
-            return Err(ScriptError::OutOfMemory);
-        }
+        let word = line_word(bytes, line).ok_or(ScriptError::Line(line as u64 + 1))?;
+        words.push(word).map_err(|_| ScriptError::OutOfMemory)?;
     }
     Ok(words)
 }

@@ -1,9 +1,8 @@
-// Scripts as files.
 use crate::{ScriptError, read_script};
 use std::alloc::Global;
 use std::test::Fail;
 
-// The first line of these that isn't so, or 0.
+/// The first line of these that isn't so, or 0.
 fn fault(alloc: Global, text: &str) -> Result<u64, Fail> {
     match read_script(alloc, text.as_bytes()) {
         Ok(_) => Ok(0),

@@ -8,7 +8,9 @@ use Rattle.show_text.specs.Number.{labelled, labelled_hex, line_end}
 
 -- the direction, and whether the access is a string or repeated
 abbrev pub kind_text : IoInfo → List ℕ
-kind_text i = (if i.input then codes "in" else codes "out") ++ (if i.string then codes " string" else []) ++ (if i.rep then codes " rep" else [])
+kind_text i =
+    (if i.input then codes "in" else codes "out") ++ (if i.string then codes " string" else [])
+    ++ (if i.rep then codes " rep" else [])
 
 abbrev pub sizes_text : IoInfo → List ℕ
 sizes_text i =

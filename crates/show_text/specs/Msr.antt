@@ -8,14 +8,17 @@ use Rattle.msr_protocol.specs.declared.msr_word.BadMsr.TheVariants.{UnknownInfo,
 use Rattle.show_text.specs.Number.{short_hex_text, labelled, labelled_hex, line_end}
 
 abbrev pub sev_info_text : ℕ → ℕ → ℕ → List ℕ
-sev_info_text max min c_bit = labelled (codes "sev-info max ") max ++ labelled (codes " min ") min ++ labelled (codes " c-bit ") c_bit
+sev_info_text max min c_bit =
+    labelled (codes "sev-info max ") max ++ labelled (codes " min ") min ++ labelled (codes " c-bit ") c_bit
 
 abbrev pub message_text : MsrWord → List ℕ
 message_text (GhcbAddress address) = labelled_hex (codes "ghcb ") address
 message_text (SevInfo max min c_bit) = sev_info_text max min c_bit
 message_text SevInfoRequest = codes "sev-info-request"
-message_text (CpuidRequest function register) = labelled (codes "cpuid-request function ") function ++ labelled (codes " register ") register
-message_text (CpuidResponse value register) = labelled (codes "cpuid-response value ") value ++ labelled (codes " register ") register
+message_text (CpuidRequest function register) =
+    labelled (codes "cpuid-request function ") function ++ labelled (codes " register ") register
+message_text (CpuidResponse value register) =
+    labelled (codes "cpuid-response value ") value ++ labelled (codes " register ") register
 message_text ApHoldRequest = codes "ap-hold-request"
 message_text (ApHoldResponse value) = labelled (codes "ap-hold-response ") value
 message_text FeatureRequest = codes "feature-request"

@@ -51,7 +51,8 @@ valid_line page k = if has_bit (bitmap_in page) k then word_line k (word_in page
 
 -- the lines of the protocol version and the usage in word 511
 abbrev pub protocol_lines : ℕ → List ℕ
-protocol_lines word = labelled (codes "version ") (version_in word) ++ line_end ++ labelled (codes "usage ") (usage_in word) ++ line_end
+protocol_lines word =
+    labelled (codes "version ") (version_in word) ++ line_end ++ labelled (codes "usage ") (usage_in word) ++ line_end
 
 -- a line for each word whose bit is set, from word 0 on, and two for the protocol
 abbrev pub page_text : Kept → List ℕ

@@ -4,12 +4,6 @@
 //! a text lies in the value itself.
 #![tactic(auto)]
 
-pub use digits::{page_from_hex, word_from_hex};
-pub use info::info_text;
-pub use msr::msr_text;
-pub use page::page_text;
-pub use text::Text;
-
 mod digits;
 mod info;
 mod msr;
@@ -17,3 +11,9 @@ mod page;
 #[cfg(test)]
 mod tests;
 mod text;
+
+pub use digits::{page_from_hex, word_from_hex};
+pub use info::info_text;
+pub use msr::msr_text;
+pub use page::page_text;
+pub use text::Text;

@@ -16,7 +16,7 @@ pub fn page_text(page: &Words) -> Text
     for number in 0..128 {
         push_valid(&mut text, page, &bitmap, number);
     }
-    push_protocol(&mut text, word_of(page, 511));
+    push_protocol(&mut text, page.word(Word::LAST));
     text
 }
 
@@ -24,7 +24,7 @@ pub fn page_text(page: &Words) -> Text
 fn bitmap_of(page: &Words) -> Bitmap
     ensures { result ≡ bitmap_in page.now }
 {
-    Bitmap::from_words(word_of(page, 126), word_of(page, 127))
+    Bitmap::from_words(page.word(Word::BITMAP_LOW), page.word(Word::BITMAP_HIGH))
 }
 
 /// A word of the page.

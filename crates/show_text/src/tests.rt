@@ -56,6 +56,7 @@ fn a_word_has_sixteen_digits(rt: HostRuntime) {
     }
 }
 
+/// The lines of the page of these digits.
 fn printed(digits: &[u8]) -> Text {
     page_text(&page_from_hex(digits).unwrap_or(Words::new()))
 }
@@ -82,8 +83,14 @@ fn pages_in_print(rt: HostRuntime) {
     digits[2017] = b'1';
     digits[2023] = b'2';
     digits[2046] = b'8';
-    let all =
-        b"word 000 0000000000000000\ncpl 00000000000000ab\nrax 0000000000000048\nword 127 8000000000000000\nversion 1\nusage 0\n".as_slice();
+    let all = b"word 000 0000000000000000
+cpl 00000000000000ab
+rax 0000000000000048
+word 127 8000000000000000
+version 1
+usage 0
+"
+        .as_slice();
     assert_eq!(rt; printed(&digits).as_bytes(), all);
 
     digits[8191] = b'G';

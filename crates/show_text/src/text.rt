@@ -85,6 +85,7 @@ impl Text {
         self.push_byte(b'0' + (number % 10) as u8);
     }
 
+    /// Appends a number in decimal.
     fn push_decimal(&mut self, number: u64)
         requires { length self.old + length (decimal number) ≤ 4096 }
         ensures { self.new ≡ self.old ++ decimal number }
@@ -95,6 +96,7 @@ impl Text {
         self.push_byte(b'0' + (number % 10) as u8);
     }
 
+    /// Appends a byte.
     fn push_byte(&mut self, byte: u8)
         requires { length self.old < 4096 }
         ensures { self.new ≡ self.old ++ byte ∷ [] }
@@ -102,6 +104,7 @@ impl Text {
         self.bytes.push(byte);
     }
 
+    /// Appends bytes.
     fn push_bytes(&mut self, bytes: &[u8])
         requires { length self.old + length bytes.now ≤ 4096 }
         ensures { self.new ≡ self.old ++ bytes.now }

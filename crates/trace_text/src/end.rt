@@ -1,4 +1,3 @@
-// A vCPU's end in print.
 ghost use Rattle.std.specs.Prelude.{◌≡◌, ◌+◌, ◌≤◌, ◌++◌, length};
 ghost use Rattle.trace_text.specs.End.{end_line, end_text, reason_text};
 

@@ -1,4 +1,3 @@
-// The lines of a trace.
 ghost use Rattle.std.specs.Prelude.{◌≡◌, ◌+◌, ◌≤◌, ◌++◌, length, IfOk};
 ghost use Rattle.trace_text.specs.Trace.{item_line, trace_text as text_of, word_text};
 

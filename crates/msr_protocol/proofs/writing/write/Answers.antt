@@ -1,5 +1,5 @@
 use Rattle.std.proofs.Common.{ℕ, ◌+◌, ◌*◌, ◌%◌, rules, arith}
-use Rattle.msr_protocol.proofs.Joins.{or-low, or-two}
+use Rattle.word_bits.proofs.Joins.{or-low, or-two}
 use Rattle.msr_protocol.proofs.writing.write.Goals as goal
 
 pub returns-in-SevInfo-clause-word : goal.returns-in-SevInfo-clause-word

@@ -2,7 +2,7 @@ use Rattle.std.proofs.Common.{◌≡◌, ◌∙◌, sym, subst, ℕ, Some, Ok, f
 use Rattle.std.proofs.lemmas.Grind.{common_steps}
 use Rattle.exit_info.proofs.Inverse.{info_of-taken, info_of-word_of, word_of-taken}
 use Rattle.exit_info.specs.declared.io_info.IoInfo.{IoInfo}
-use Rattle.exit_info.specs.IoInfo.{IsWordOf, info_of, taken, has_reserved, size_in, address_in}
+use Rattle.exit_info.specs.IoInfo.{IsInfoWord, info_of, taken, has_reserved, size_in, address_size_in}
 use Rattle.exit_info.proofs.io_info.IoInfo.read.Goals as goal
 
 pub returns-clause-value : goal.returns-clause-value
@@ -13,10 +13,10 @@ returns-clause-ok c = λ i.
     let word : ℕ = c.args.word in
     let clear : has_reserved word ≡ false = search rules in
     let size : size_in word ≡ Some c.in_ok-size.size = search rules in
-    let address : address_in word ≡ Some c.in_ok-address.address = search rules in
+    let address : address_size_in word ≡ Some c.in_ok-address.address = search rules in
     let value = info_of-taken word _ _ clear size address in
     let lawful = word_of-taken word _ _ (omega arith) clear size address in
-    let IsWord : IoInfo → Type 0 = λ info. IsWordOf info word in
+    let IsWord : IoInfo → Type 0 = λ info. IsInfoWord info word in
     let Reads : ℕ → Type 0 = λ n. info_of n ≡ Ok i in (
       λ e.
           let same : taken word c.in_ok-size.size c.in_ok-address.address ≡ i =

@@ -1,5 +1,5 @@
 use Rattle.std.proofs.Common.{◌≡◌, refl, ℕ, ◌+◌, ◌*◌, ◌%◌, ◌≤◌, Bool, true, false, arith}
-use Rattle.exit_info.proofs.Joins.{or-low}
+use Rattle.word_bits.proofs.Joins.{or-low}
 use Rattle.exit_info.proofs.Inverse.{info_of-word_of}
 use Rattle.exit_info.specs.IoInfo.{flag}
 use Rattle.exit_info.proofs.io_info.IoInfo.write.Goals as goal
