@@ -8,7 +8,7 @@ use Rattle.x86_base.specs.declared.op.Op.TheVariants as op
 use Rattle.x86_base.specs.declared.reg.Reg.{Reg}
 use Rattle.x86_base.specs.declared.reg.Reg.TheVariants.{Rax, Rcx, Rdx, Rbx}
 use Rattle.x86_base.specs.declared.reg.Width.{Width}
-use Rattle.x86_base.specs.declared.reg.Width.TheVariants.{B8, B16}
+use Rattle.x86_base.specs.declared.reg.Width.TheVariants.{B8, B16, B64}
 use Rattle.event_table.specs.declared.access.Access.{Access}
 use Rattle.event_table.specs.declared.access.Values.{Values}
 use Rattle.event_table.specs.declared.end.End.TheVariants.{Undecoded}
@@ -17,9 +17,9 @@ use Rattle.event_table.specs.declared.places.Place.TheVariants.{Fixed, Low}
 use Rattle.event_table.specs.declared.row.Kind.{Kind}
 use Rattle.event_table.specs.declared.row.Kind.TheVariants as kind
 use Rattle.event_table.specs.declared.row.Row.{Row}
-use Rattle.event_table.specs.Places.{Value, Number, number}
-use Rattle.event_table.specs.Plan.{Plan, Ends, Looks, Named, Asks, Setting, goes, onward}
-use Rattle.event_table.specs.Rows.{row_of, kind_of, access_of, registers}
+use Rattle.event_table.specs.Places.{Vcpu, Number, number}
+use Rattle.event_table.specs.Plan.{Plan, Ends, Looks, Move, Named, Asks, Setting, Stepped, access_asked, goes, onward, step_answered, setting, with_moves}
+use Rattle.event_table.specs.Rows.{event_row, kind_of, access_of, registers}
 
 -- the port that an operand names: a number of the instruction, or DX
 abbrev pub port_of : Operand → Place
@@ -51,26 +51,26 @@ kind_at op.Wbinvd width port = Some kind.Wbinvd
 kind_at op.Vmmcall width port = Some kind.Vmmcall
 kind_at _ width port = None
 
--- a register at a width, where the row has it
+-- a register at a width, where a row has it
 abbrev pub place_if : Bool → Reg → Width → Place
 place_if is reg width = if is then Low reg width else Fixed 0
 
--- the registers that a row shows, and those that have results
+-- the registers that a row shows, of which the access takes what its size says
 abbrev pub shown_places : Row → List Place
-shown_places r = place_if r.shows.a Rax r.width ∷ place_if r.shows.c Rcx r.width ∷ place_if r.shows.d Rdx r.width ∷ []
+shown_places r = place_if r.shows.a Rax B64 ∷ place_if r.shows.c Rcx B64 ∷ place_if r.shows.d Rdx B64 ∷ []
 
-abbrev pub result_places : Row → List Place
-result_places r = place_if r.results.a Rax r.width ∷ place_if r.results.c Rcx r.width ∷ place_if r.results.d Rdx r.width ∷ place_if r.results.b Rbx r.width ∷ []
-
-abbrev pub results_in : Values → List Value
-results_in values = Number values.a ∷ Number values.c ∷ Number values.d ∷ Number values.b ∷ []
+-- the results in their registers, at the row's width
+abbrev pub results_to : Row → Values → List Move
+results_to r values =
+    (place_if r.results.a Rax r.width, Number values.a) ∷ (place_if r.results.c Rcx r.width, Number values.c)
+    ∷ (place_if r.results.d Rdx r.width, Number values.d) ∷ (place_if r.results.b Rbx r.width, Number values.b) ∷ []
 
 -- What an event shows of registers, the access that it asks, and where the results go.
 abbrev pub event_of : Kind → Setting → Plan
 event_of k s =
-    Looks Named (shown_places (row_of k)) (λ seen.
+    Looks Named (shown_places (event_row k)) (λ seen.
     Asks (access_of k (registers (number seen 0) (number seen 1) (number seen 2))) (λ values.
-    goes (record (onward s) { moved = result_places (row_of k); moves = results_in values })))
+    goes (with_moves (results_to (event_row k) values) (onward s))))
 
 abbrev pub event_or : Plan → Option Kind → Setting → Plan
 event_or private (Some k) s = event_of k s
@@ -84,6 +84,13 @@ event_plan i s private = Looks Named (port_at i.op i ∷ []) (λ seen. event_or 
 abbrev pub exit_of : Insn → Setting → Plan
 exit_of i s = event_plan i s (Ends Undecoded)
 
+-- the access that an instruction asks at a vCPU, and how it goes on with the results
+abbrev pub asked_by : Insn → Vcpu → Option Access
+asked_by i v = access_asked v (exit_of i (setting v i.len))
+
+abbrev pub placed_by : Values → Insn → Vcpu → Stepped
+placed_by values i v = step_answered values v (exit_of i (setting v i.len))
+
 -- string I/O, for which nothing is shown yet
 abbrev pub comes_later_at : Op → Bool
 comes_later_at op.Ins = true
@@ -95,4 +102,4 @@ comes_later i = comes_later_at i.op
 
 -- the exit code with which #VC is raised for an access (AMD 56421, section 2.6; APM volume 2, appendix C)
 abbrev pub vc_code : Access → ℕ
-vc_code access = (row_of (kind_of access)).code
+vc_code access = (event_row (kind_of access)).code

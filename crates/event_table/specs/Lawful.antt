@@ -28,8 +28,8 @@ IsLawfulAccess (access.Rdpmc index) = index < 2 ^ 32
 IsLawfulAccess (access.Vmmcall rax) = rax < 2 ^ 64
 IsLawfulAccess _ = Unit {0}
 
-abbrev pub IsLawful : Event → Type 0
-IsLawful (One access) = IsLawfulAccess access
+abbrev pub IsLawfulEvent : Event → Type 0
+IsLawfulEvent (One access) = IsLawfulAccess access
 
 -- how many accesses an event is
 abbrev pub count_of : Event → ℕ

@@ -1,6 +1,9 @@
 -- What an instruction does. Each instruction's meaning is one plan; the private step, the access that
 -- is asked, and the placing of its results are readings of it.
-use Rattle.std.specs.Prelude.{ℕ, ◌+◌, ◌*◌, ◌%◌, ◌^◌, Bool, if◌then◌else◌, List, [], ◌∷◌, length, map, Option, None, Some, Result, Ok, Err}
+use Rattle.std.specs.Prelude.{◌≡◌, ℕ, ◌+◌, ◌*◌, ◌%◌, ◌^◌, Bool, if◌then◌else◌, List, [], ◌∷◌, length, map, Option, None, Some, Result, Ok, Err}
+use Rattle.image_file.specs.Ram as ram_of
+use Rattle.x86_base.specs.declared.insn.Insn.{Insn}
+use Rattle.x86_base.specs.declared.regs.Regs.{Regs}
 use Rattle.x86_base.specs.declared.insn.Operand.{Operand}
 use Rattle.x86_base.specs.declared.insn.Operand.TheVariants.{Absent, Whole, High, Memory, Imm}
 use Rattle.x86_base.specs.declared.memory.MemRef.{MemRef}
@@ -17,7 +20,7 @@ use Rattle.x86_base.specs.declared.stop.Stop.{Stop}
 use Rattle.x86_base.specs.declared.stop.Stop.TheVariants as stop
 use Rattle.event_table.specs.declared.places.Place.{Place}
 use Rattle.event_table.specs.declared.places.Place.TheVariants as place
-use Rattle.event_table.specs.Places.{Vcpu, Value, number, read, write_all, address_in, is_readable, is_writable}
+use Rattle.event_table.specs.Places.{Vcpu, vcpu, Value, number, read, write_all, address_in, is_readable, is_writable}
 
 -- One change of a vCPU: what it writes depends on the vCPU by the places that it reads alone.
 pub record Change : Type 0 where
@@ -85,6 +88,20 @@ jumps rip = record { reads = []; values = λ _. []; targets = []; moved = []; mo
 abbrev pub onward : Setting → Change
 onward s = jumps s.next
 
+-- a known value, and the place that it goes to
+abbrev pub Move : Type 0
+Move = Place × Value
+
+abbrev pub place_in : Move → Place
+place_in move = move.0
+
+abbrev pub value_in : Move → Value
+value_in move = move.1
+
+-- these are written first, in this order
+abbrev pub with_moves : List Move → Change → Change
+with_moves moves change = record change { moved = map place_in moves; moves = map value_in moves }
+
 -- it goes on at the following instruction, and writes the targets
 abbrev pub writes : Setting → List Place → List Place → (List Value → List Value) → Change
 writes s targets reads values = record (onward s) { targets = targets; reads = reads; values = values }
@@ -96,14 +113,14 @@ if_readable s at plan = if is_readable s.ram at then plan else Ends (BadAddress 
 abbrev pub if_writable : Setting → Place → Plan → Plan
 if_writable s at plan = if is_writable s.ram s.code at then plan else Ends (BadAddress (address_in at))
 
-abbrev pub part : Option Reg → Place
-part None = place.Fixed 0
-part (Some reg) = place.Low reg B64
+abbrev pub register_place : Option Reg → Place
+register_place None = place.Fixed 0
+register_place (Some reg) = place.Low reg B64
 
 -- the registers of an operand's address: its base and its index
-abbrev pub parts_of : Operand → List Place
-parts_of (Memory mem) = part mem.base ∷ part mem.index ∷ []
-parts_of _ = []
+abbrev pub address_places : Operand → List Place
+address_places (Memory mem) = register_place mem.base ∷ register_place mem.index ∷ []
+address_places _ = []
 
 -- the address, by what these hold (APM volume 1, section 2.2.3)
 abbrev pub sum_of : MemRef → ℕ → List Value → ℕ
@@ -121,9 +138,13 @@ place_at next width (High reg) parts = place.High reg
 place_at next width (Memory mem) parts = place.Bytes (sum_of mem next parts) width
 place_at next width (Imm value) parts = place.Fixed (low width value)
 
+-- at a vCPU, at a width of an instruction
+abbrev pub place_of : Insn → Width → Operand → Vcpu → Place
+place_of i width operand v = place_at (setting v i.len).next width operand (map (read v) (address_places operand))
+
 -- the plan at an operand's place
 abbrev pub at_operand : Setting → Width → Operand → (Place → Plan) → Plan
-at_operand s width operand plan = Looks Address (parts_of operand) (λ parts. plan (place_at s.next width operand parts))
+at_operand s width operand plan = Looks Address (address_places operand) (λ parts. plan (place_at s.next width operand parts))
 
 -- What an instruction comes to at a vCPU.
 pub data Stepped : Type 0 where
@@ -140,16 +161,16 @@ stepped v (Looks kind places next) = stepped v (next (map (read v) places))
 stepped v (Asks access done) = Exits access v
 
 -- the access that is asked, if one is
-abbrev pub asked : Vcpu → Plan → Option Access
-asked v (Looks kind places next) = asked v (next (map (read v) places))
-asked v (Asks access done) = Some access
-asked v _ = None
+abbrev pub access_asked : Vcpu → Plan → Option Access
+access_asked v (Looks kind places next) = access_asked v (next (map (read v) places))
+access_asked v (Asks access done) = Some access
+access_asked v _ = None
 
 -- how the instruction goes on with the results of its access; one that asks nothing isn't answered
-abbrev pub placed : Values → Vcpu → Plan → Stepped
-placed values v (Looks kind places next) = placed values v (next (map (read v) places))
-placed values v (Asks access done) = stepped v (done values)
-placed values v _ = Stops Undecoded v
+abbrev pub step_answered : Values → Vcpu → Plan → Stepped
+step_answered values v (Looks kind places next) = step_answered values v (next (map (read v) places))
+step_answered values v (Asks access done) = stepped v (done values)
+step_answered values v _ = Stops Undecoded v
 
 -- how a vCPU ends that an instruction stops
 abbrev pub end_of : Stop → End
@@ -158,6 +179,14 @@ end_of (stop.BadAddress at) = ends.BadAddress at
 end_of (stop.Fault vector) = ends.Fault vector
 
 -- what an instruction comes to, by what the code returned and the vCPU then
-abbrev pub after : {A : Type 0} → Result A Stop → Vcpu → Stepped
-after (Ok _) v = Moved v
-after (Err stop) v = Stops (end_of stop) v
+abbrev pub step_result : {A : Type 0} → Result A Stop → Vcpu → Stepped
+step_result (Ok _) v = Moved v
+step_result (Err stop) v = Stops (end_of stop) v
+
+-- code that returned this did with these registers and this RAM what an instruction's plan says
+abbrev pub Does : {A : Type 0} → Result A Stop → Regs → ram_of.Memory → Regs → ram_of.Memory → Insn → (Setting → Plan) → Type 0
+Does result regs ram regs_after ram_after i plan = let v = vcpu regs ram in step_result result (vcpu regs_after ram_after) ≡ stepped v (plan (setting v i.len))
+
+-- and code that changes registers alone, and can't stop
+abbrev pub Moves : Regs → Regs → Insn → (Setting → Plan) → Type 0
+Moves regs regs_after i plan = (ram : ram_of.Memory) → let v = vcpu regs ram in Moved (vcpu regs_after ram) ≡ stepped v (plan (setting v i.len))

@@ -1,8 +1,13 @@
 -- The event table (AMD 56421, section 4, the state of each non-automatic exit).
-use Rattle.std.specs.Prelude.{ℕ, ◌+◌, ◌*◌, ◌%◌, ◌^◌, ◌==◌, ◌&&◌, Bool, if◌then◌else◌}
+use Rattle.std.specs.Prelude.{ℕ, ◌%◌, ◌^◌, ◌==◌, ◌&&◌, Bool, true, false, if◌then◌else◌}
 use Rattle.x86_base.specs.declared.reg.Width.{Width}
 use Rattle.x86_base.specs.declared.reg.Width.TheVariants.{B8, B16, B32, B64}
-use Rattle.x86_base.specs.Widths.{low}
+use Rattle.x86_base.specs.Widths.{bits_of, low}
+use Rattle.exit_info.specs.declared.exit_code.ExitCode.{ExitCode}
+use Rattle.exit_info.specs.declared.exit_code.ExitCode.TheVariants as code
+use Rattle.exit_info.specs.declared.io_info.IoInfo.{IoInfo}
+use Rattle.exit_info.specs.ExitCode.{number_of_code}
+use Rattle.exit_info.specs.IoInfo.{info_word}
 use Rattle.event_table.specs.declared.access.Access.{Access}
 use Rattle.event_table.specs.declared.access.Access.TheVariants as access
 use Rattle.event_table.specs.declared.row.Kind.{Kind}
@@ -16,34 +21,52 @@ use Rattle.event_table.specs.declared.row.Shows.{Shows}
 abbrev pub io_width : ℕ → Width
 io_width size = if size == 1 then B8 else (if size == 2 then B16 else B32)
 
--- SW_EXITINFO1 of port I/O: bits 31:16 the port, bit 9 an address size of 64 bits, bits 4, 5 and 6 the size of 1, 2 or 4 bytes,
--- bit 0 IN (APM volume 2, section 15.10.2)
-abbrev pub io_info : ℕ → ℕ → ℕ → ℕ
-io_info port size input = port * 0x10000 + 0x200 + size * 0x10 + input
+-- what SW_EXITINFO1 says of IN and OUT: one access at a port, and addresses of 64 bits
+abbrev pub io_of : ℕ → ℕ → Bool → IoInfo
+io_of port size input = record { port = port; input = input; string = false; rep = false; size = bits_of (io_width size); address = 64; segment = 0 }
 
--- words 25, 63, 97, 98 and 125, where 1 is shown
+-- CPL, RAX, RCX and RDX are shown beside the exit code and infos where 1 stands, and, at one leaf alone, XCR0
 abbrev pub shows : ℕ → ℕ → ℕ → ℕ → ℕ → Shows
-shows cpl a c d xcr = record { cpl = cpl == 1; a = a == 1; c = c == 1; d = d == 1; xcr = xcr == 1 }
+shows cpl rax rcx rdx xcr0 = record { cpl = cpl == 1; a = rax == 1; c = rcx == 1; d = rdx == 1; xcr = xcr0 == 1 }
 
--- words 63, 97, 98 and 99, where 1 comes back
+-- RAX, RCX, RDX and RBX come back where 1 stands
 abbrev pub results : ℕ → ℕ → ℕ → ℕ → Results
-results a c d b = record { a = a == 1; c = c == 1; d = d == 1; b = b == 1 }
+results rax rcx rdx rbx = record { a = rax == 1; c = rcx == 1; d = rdx == 1; b = rbx == 1 }
 
-abbrev pub row : ℕ → ℕ → Shows → Results → Width → Row
-row code info shows results width = record { code = code; info = info; shows = shows; results = results; width = width }
+-- a row: what is shown and comes back, the width of the results, the exit code and SW_EXITINFO1
+abbrev pub row : Shows → Results → Width → ExitCode → ℕ → Row
+row shows results width code info = record { code = number_of_code code; info = info; shows = shows; results = results; width = width }
 
-abbrev pub row_of : Kind → Row
---                            code info                       25 63 97 98 125  63 97 98 99  width
-row_of (kind.Out port size) = row 0x7B (io_info port size 0) (shows 0 1 0 0 0) (results 0 0 0 0) (io_width size)
-row_of (kind.In port size) = row 0x7B (io_info port size 1) (shows 0 0 0 0 0) (results 1 0 0 0) (io_width size)
-row_of kind.Cpuid = row 0x72 0 (shows 0 1 1 0 1) (results 1 1 1 1) B32
-row_of kind.Rdmsr = row 0x7C 0 (shows 0 0 1 0 0) (results 1 0 1 0) B32
-row_of kind.Wrmsr = row 0x7C 1 (shows 0 1 1 1 0) (results 0 0 0 0) B32
-row_of kind.Rdtsc = row 0x6E 0 (shows 0 0 0 0 0) (results 1 0 1 0) B32
-row_of kind.Rdtscp = row 0x87 0 (shows 0 0 0 0 0) (results 1 1 1 0) B32
-row_of kind.Rdpmc = row 0x6F 0 (shows 0 0 1 0 0) (results 1 0 1 0) B32
-row_of kind.Wbinvd = row 0x89 0 (shows 0 0 0 0 0) (results 0 0 0 0) B32
-row_of kind.Vmmcall = row 0x81 0 (shows 1 1 0 0 0) (results 1 0 0 0) B64
+-- THE TABLE: shown are CPL RAX RCX RDX XCR0, and RAX RCX RDX RBX come back. Each row stands in the section of its comment's name.
+abbrev pub event_row : Kind → Row
+-- IOIO_PROT
+event_row (kind.Out port size) =
+    row (shows 0 1 0 0 0) (results 0 0 0 0) (io_width size) code.Io (info_word (io_of port size false))
+event_row (kind.In port size) =
+    row (shows 0 0 0 0 0) (results 1 0 0 0) (io_width size) code.Io (info_word (io_of port size true))
+-- CPUID
+event_row kind.Cpuid =
+    row (shows 0 1 1 0 1) (results 1 1 1 1) B32 code.Cpuid 0
+-- MSR_PROT
+event_row kind.Rdmsr =
+    row (shows 0 0 1 0 0) (results 1 0 1 0) B32 code.Msr 0
+event_row kind.Wrmsr =
+    row (shows 0 1 1 1 0) (results 0 0 0 0) B32 code.Msr 1
+-- RDTSC
+event_row kind.Rdtsc =
+    row (shows 0 0 0 0 0) (results 1 0 1 0) B32 code.Rdtsc 0
+-- RDTSCP
+event_row kind.Rdtscp =
+    row (shows 0 0 0 0 0) (results 1 1 1 0) B32 code.Rdtscp 0
+-- RDPMC
+event_row kind.Rdpmc =
+    row (shows 0 0 1 0 0) (results 1 0 1 0) B32 code.Rdpmc 0
+-- WBINVD
+event_row kind.Wbinvd =
+    row (shows 0 0 0 0 0) (results 0 0 0 0) B32 code.Wbinvd 0
+-- VMMCALL
+event_row kind.Vmmcall =
+    row (shows 1 1 0 0 0) (results 1 0 0 0) B64 code.Vmmcall 0
 
 -- XCR0 is shown with the leaf of the extended state, 0xD (APM volume 3, CPUID)
 abbrev pub shows_xcr0 : Row → ℕ → Bool
@@ -77,7 +100,7 @@ registers_of (access.Rdpmc index) = registers 0 index 0
 registers_of access.Wbinvd = registers 0 0 0
 registers_of (access.Vmmcall rax) = registers rax 0 0
 
--- the access of a kind and its registers, each cut to its size
+-- The access of a kind and its registers. What is shown of a register, and what of a word counts, is cut to its size here and nowhere else.
 abbrev pub access_of : Kind → Registers → Access
 access_of (kind.Out port size) r = access.Out port size (low (io_width size) r.a)
 access_of (kind.In port size) r = access.In port size

@@ -1,5 +1,3 @@
-// One access of the devices.
-
 /// One access that a guest asks of the devices. It is lawful where an I/O size is 1, 2 or 4 bytes and
 /// an OUT's value fits its size.
 #[derive(Clone, Copy, Debug, PartialEq, Eq)]

@@ -1,13 +1,14 @@
 // What an instruction that exits asks of the devices, and where the results go.
 ghost use Rattle.std.specs.Prelude.{◌≡◌, is_some, IfSome, IsSome};
 ghost use Rattle.image_file.specs.Ram.{Memory};
-ghost use Rattle.event_table.specs.Events.{comes_later as is_later, exit_of, kind_at, place_if, port_at, port_of};
+ghost use Rattle.event_table.specs.Events.{asked_by, comes_later as is_later, kind_at, placed_by};
+ghost use Rattle.event_table.specs.Events.{place_if, port_at, port_of};
 ghost use Rattle.event_table.specs.Lawful.{IsKind, IsLawfulAccess, IsSize};
 ghost use Rattle.event_table.specs.Places.{read, vcpu, write, Number};
-ghost use Rattle.event_table.specs.Plan.{Moved, asked, placed, setting};
+ghost use Rattle.event_table.specs.Plan.{Moved};
 
 use crate::access::{Access, Values};
-use crate::places::{following, low};
+use crate::places::following;
 use crate::row::{Kind, Registers, access_of, row_of};
 use image_file::Ram;
 use x86_base::{Insn, Op, Operand, Reg, Regs, Width};
@@ -87,32 +88,33 @@ pub fn is_event(insn: &Insn) -> bool
     kind(insn, 0).is_some()
 }
 
-/// A register's low bits, where a row shows it, and else 0.
-fn shown(regs: &Regs, is: bool, reg: Reg, width: Width) -> u64
-    ensures value { (ram : Memory) → read (vcpu regs.now ram) (place_if is reg width) ≡ Number result }
+/// A register, where a row shows it, and else 0.
+fn shown(regs: &Regs, is: bool, reg: Reg) -> u64
+    ensures value { (ram : Memory) → read (vcpu regs.now ram) (place_if is reg Width.B64) ≡ Number result }
 {
-    if is { low(width, regs.get(reg)) } else { 0 }
+    if is { regs.get(reg) } else { 0 }
 }
 
 /// The access that an instruction asks of the devices, at registers and RAM. There is none exactly
 /// where the instruction exits for nothing, or is string I/O.
 pub fn named(regs: &Regs, ram: &Ram, insn: &Insn) -> Option<Access>
-    ensures value { let v = vcpu regs.now ram.now in result ≡ asked v (exit_of insn.now (setting v insn.now.len)) }
+    ensures value { result ≡ asked_by insn.now (vcpu regs.now ram.now) }
     ensures lawful { IfSome result IsLawfulAccess }
 {
     let kind = kind(insn, port(regs, insn))?;
     let row = row_of(&kind);
     let registers = Registers {
-        a: shown(regs, row.shows.a, Reg::Rax, row.width),
-        c: shown(regs, row.shows.c, Reg::Rcx, row.width),
-        d: shown(regs, row.shows.d, Reg::Rdx, row.width),
+        a: shown(regs, row.shows.a, Reg::Rax),
+        c: shown(regs, row.shows.c, Reg::Rcx),
+        d: shown(regs, row.shows.d, Reg::Rdx),
     };
     Some(access_of(&kind, &registers))
 }
 
 /// Puts a result in its register, where a row has one for it.
 fn put_if(regs: &mut Regs, is: bool, reg: Reg, width: Width, value: u64)
-    ensures change { (ram : Memory) → vcpu regs.new ram ≡ write (place_if is reg width) (Number value) (vcpu regs.old ram) }
+    ensures change { (ram : Memory) →
+        vcpu regs.new ram ≡ write (place_if is reg width) (Number value) (vcpu regs.old ram) }
 {
     if is {
         regs.put_sized(reg, width, value);
@@ -121,8 +123,8 @@ fn put_if(regs: &mut Regs, is: bool, reg: Reg, width: Width, value: u64)
 
 /// Puts the results of the access that an instruction asks in their places, and goes on.
 pub fn place(regs: &mut Regs, ram: &mut Ram, insn: &Insn, values: &Values)
-    requires asked { let v = vcpu regs.old ram.old in IsSome (asked v (exit_of insn.now (setting v insn.now.len))) }
-    ensures placed { let v = vcpu regs.old ram.old in Moved (vcpu regs.new ram.new) ≡ placed values.now v (exit_of insn.now (setting v insn.now.len)) }
+    requires asked { IsSome (asked_by insn.now (vcpu regs.old ram.old)) }
+    ensures placed { Moved (vcpu regs.new ram.new) ≡ placed_by values.now insn.now (vcpu regs.old ram.old) }
 {
     let next = following(regs, insn);
     if let Some(kind) = kind(insn, port(regs, insn)) {

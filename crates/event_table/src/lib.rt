@@ -1,5 +1,13 @@
-//! What a guest asks of the devices and what it is answered, and what an instruction does to a
-//! vCPU: `specs/Plan.antt` is the form in which every instruction's meaning is written.
+//! What instructions mean, what a guest asks of the devices, and what comes of it.
+//!
+//! Plans: `specs/Plan.antt` is the form in which every instruction's meaning is written, over the places
+//! of `specs/Places.antt`. `find`, `load` and `store` are the code's side of places, and `raise` delivers an
+//! exception (`specs/Raising.antt`).
+//!
+//! The event table: `specs/Rows.antt` has a row for each event, with what the host is shown and what comes
+//! back, and `specs/Events.antt` reads it: which access an instruction asks, and where its results go.
+//!
+//! Results: what a guest takes of a reply, how a vCPU ends, and the order of what was asked.
 #![tactic(auto)]
 
 mod access;
@@ -21,7 +29,7 @@ pub use end::{End, Reason};
 pub use event::Event;
 pub use exits::{comes_later, is_event, named, place};
 pub use outcome::{Outcome, Reply};
-pub use places::{Place, find, following, load, size, store};
+pub use places::{Place, find, following, load, store};
 pub use raising::raise;
 pub use row::{Kind, Registers, Results, Row, Shows, access_of, kind_of, registers_of, row_of};
-pub use turn::{Finished, Turn};
+pub use turn::{Entry, Finished, Turn};

@@ -1,9 +1,11 @@
 // The event table (AMD 56421, section 4, the state of each non-automatic exit).
-ghost use Rattle.std.specs.Prelude.{◌≡◌, ◌<◌};
+ghost use Rattle.std.specs.Prelude.{◌≡◌};
+ghost use Rattle.exit_info.specs.IoInfo.{info_word};
 ghost use Rattle.event_table.specs.Lawful.{IsKind, IsLawfulAccess};
 ghost use Rattle.event_table.specs.Rows as rows;
 
 use crate::access::Access;
+use exit_info::{ExitCode, IoInfo};
 use x86_base::Width;
 
 /// What kind of event an access is. Port I/O has its port and its size in the exit info.
@@ -21,8 +23,8 @@ pub enum Kind {
     Vmmcall,
 }
 
-/// Which words are shown beside the exit code and infos: CPL (25), RAX (63), RCX (97), RDX (98), and
-/// XCR0 (125) where EAX is 0xD.
+/// Which words are shown beside the exit code and infos: CPL (word 25), RAX (63), RCX (97), RDX (98),
+/// and XCR0 (125) where EAX is 0xD.
 #[derive(Clone, Copy, Debug, PartialEq, Eq)]
 pub struct Shows {
     pub cpl: bool,
@@ -32,7 +34,7 @@ pub struct Shows {
     pub xcr: bool,
 }
 
-/// Which registers a reply has results for: RAX (63), RCX (97), RDX (98) and RBX (99).
+/// Which registers a reply has results for: RAX (word 63), RCX (97), RDX (98) and RBX (99).
 #[derive(Clone, Copy, Debug, PartialEq, Eq)]
 pub struct Results {
     pub a: bool,
@@ -42,7 +44,7 @@ pub struct Results {
 }
 
 /// A row of the table: the exit code, which is also the code of #VC; SW_EXITINFO1; what is shown and
-/// what comes back, and the width of RAX as it is shown and of the results.
+/// what comes back, and the width of the results.
 #[derive(Clone, Copy, Debug, PartialEq, Eq)]
 pub struct Row {
     pub code: u64,
@@ -69,26 +71,31 @@ pub struct Registers {
     pub d: u64,
 }
 
-/// A row by its columns, where 1 stands for a word that is shown or comes back.
-macro_rules! row {
-    ($code:literal, $info:expr, $cpl:literal $a:literal $c:literal $d:literal $xcr:literal, $ra:literal $rc:literal $rd:literal $rb:literal, $width:expr) => {
-        Row {
-            code: $code,
-            info: $info,
-            shows: Shows {
-                cpl: $cpl == 1,
-                a: $a == 1,
-                c: $c == 1,
-                d: $d == 1,
-                xcr: $xcr == 1,
-            },
-            results: Results {
-                a: $ra == 1,
-                c: $rc == 1,
-                d: $rd == 1,
-                b: $rb == 1,
-            },
-            width: $width,
+/// The row of a kind by columns, where 1 stands for a word that is shown or comes back.
+macro_rules! rows {
+    ($kind:expr; $($is:pat =>
+        $cpl:literal $a:literal $c:literal $d:literal $xcr:literal,
+        $ra:literal $rc:literal $rd:literal $rb:literal,
+        $code:ident, $width:expr, $info:expr;)*) => {
+        match $kind {
+            $($is => Row {
+                code: ExitCode::$code.write(),
+                info: $info,
+                shows: Shows {
+                    cpl: $cpl == 1,
+                    a: $a == 1,
+                    c: $c == 1,
+                    d: $d == 1,
+                    xcr: $xcr == 1,
+                },
+                results: Results {
+                    a: $ra == 1,
+                    c: $rc == 1,
+                    d: $rd == 1,
+                    b: $rb == 1,
+                },
+                width: $width,
+            },)*
         }
     };
 }
@@ -104,34 +111,45 @@ fn io_width(size: u8) -> Width
     }
 }
 
-/// SW_EXITINFO1 of port I/O: the port in bits 31:16, an address size of 64 bits, the size, and whether it
-/// is an IN (APM volume 2, section 15.10.2).
-fn io_info(port: u16, size: u8, input: u64) -> u64
-    requires input { input < 2 }
-    ensures value { result ≡ rows.io_info port size input }
+/// SW_EXITINFO1 of IN or OUT: one access at a port, and addresses of 64 bits (APM volume 2, section
+/// 15.10.2).
+fn io_info(port: u16, size: u8, input: bool) -> u64
+    ensures value { result ≡ info_word (rows.io_of port size input) }
 {
-    u64::from(port) * 0x1_0000 + 0x200 + u64::from(size) * 0x10 + input
+    let info = IoInfo {
+        port,
+        input,
+        string: false,
+        rep: false,
+        size: match io_width(size) {
+            Width::B8 => 8,
+            Width::B16 => 16,
+            _ => 32,
+        },
+        address: 64,
+        segment: 0,
+    };
+    info.write()
 }
 
 /// The row of a kind of event.
 pub fn row_of(kind: &Kind) -> Row
-    ensures value { result ≡ rows.row_of kind.now }
+    ensures value { result ≡ rows.event_row kind.now }
 {
-    match *kind {
-        //                           code  info                      25 63 97 98 125  63 97 98 99  width
-        Kind::Out { port, size } =>
-            row!(0x7B, io_info(port, size, 0), 0 1 0 0 0, 0 0 0 0, io_width(size)),
-        Kind::In { port, size } =>
-            row!(0x7B, io_info(port, size, 1), 0 0 0 0 0, 1 0 0 0, io_width(size)),
-        Kind::Cpuid => row!(0x72, 0, 0 1 1 0 1, 1 1 1 1, Width::B32),
-        Kind::Rdmsr => row!(0x7C, 0, 0 0 1 0 0, 1 0 1 0, Width::B32),
-        Kind::Wrmsr => row!(0x7C, 1, 0 1 1 1 0, 0 0 0 0, Width::B32),
-        Kind::Rdtsc => row!(0x6E, 0, 0 0 0 0 0, 1 0 1 0, Width::B32),
-        Kind::Rdtscp => row!(0x87, 0, 0 0 0 0 0, 1 1 1 0, Width::B32),
-        Kind::Rdpmc => row!(0x6F, 0, 0 0 1 0 0, 1 0 1 0, Width::B32),
-        Kind::Wbinvd => row!(0x89, 0, 0 0 0 0 0, 0 0 0 0, Width::B32),
-        Kind::Vmmcall => row!(0x81, 0, 1 1 0 0 0, 1 0 0 0, Width::B64),
-    }
+    rows!(*kind;
+        //                          shown to the host    coming back      code     width           SW_EXITINFO1
+        //                          CPL RAX RCX RDX XCR0 RAX RCX RDX RBX
+        Kind::Out { port, size } => 0   1   0   0   0,   0   0   0   0,   Io,      io_width(size), io_info(port, size, false);
+        Kind::In { port, size }  => 0   0   0   0   0,   1   0   0   0,   Io,      io_width(size), io_info(port, size, true);
+        Kind::Cpuid              => 0   1   1   0   1,   1   1   1   1,   Cpuid,   Width::B32,     0;
+        Kind::Rdmsr              => 0   0   1   0   0,   1   0   1   0,   Msr,     Width::B32,     0;
+        Kind::Wrmsr              => 0   1   1   1   0,   0   0   0   0,   Msr,     Width::B32,     1;
+        Kind::Rdtsc              => 0   0   0   0   0,   1   0   1   0,   Rdtsc,   Width::B32,     0;
+        Kind::Rdtscp             => 0   0   0   0   0,   1   1   1   0,   Rdtscp,  Width::B32,     0;
+        Kind::Rdpmc              => 0   0   1   0   0,   1   0   1   0,   Rdpmc,   Width::B32,     0;
+        Kind::Wbinvd             => 0   0   0   0   0,   0   0   0   0,   Wbinvd,  Width::B32,     0;
+        Kind::Vmmcall            => 1   1   0   0   0,   1   0   0   0,   Vmmcall, Width::B64,     0;
+    )
 }
 
 /// The kind of an access.
@@ -168,7 +186,8 @@ pub fn registers_of(access: &Access) -> Registers
     Registers { a, c, d }
 }
 
-/// The access of a kind and its registers, each cut to its size.
+/// The access of a kind and its registers. What a guest shows of a register, and what of a word counts
+/// for a host, is cut to its size here and nowhere else.
 pub fn access_of(kind: &Kind, registers: &Registers) -> Access
     ensures value { result ≡ rows.access_of kind.now registers.now }
     ensures lawful { IsKind kind.now → IsLawfulAccess result }

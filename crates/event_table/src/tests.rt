@@ -1,20 +1,14 @@
 // Instructions that exit, and exceptions, over one page of RAM.
 use crate::{Access, Kind, Values, named, place, raise, row_of};
 use image_file::{Image, Ram};
+use image_samples::sample_image;
 use std::alloc::Global;
 use std::test::Fail;
 use x86_base::{Flags, Insn, Op, Operand, Reg, Regs, Stop, Width};
 
 /// An image of nine bytes of code over one page, with handlers of #UD and #GP at these addresses.
-fn image(alloc: Global, ud: u8, gp: u8) -> Result<Image, Fail> {
-    let mut file = [0; 73];
-    file[..8].copy_from_slice(b"GHCBIMG1");
-    file[8] = 1;
-    file[13] = 0x10;
-    file[16] = 9;
-    file[28] = ud;
-    file[32] = gp;
-    Ok(Image::read(alloc, &file)?)
+fn image(alloc: Global, ud: u32, gp: u32) -> Result<Image, Fail> {
+    Ok(sample_image(alloc, &[0; 9], ud, gp)?)
 }
 
 /// Registers with RAX, RCX, RDX and RSP, at address 5.

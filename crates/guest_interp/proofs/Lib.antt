@@ -1,1 +1,4 @@
+pub mod Ended
 pub mod Flagging
+pub mod Going
+pub mod Guarded

@@ -4,6 +4,7 @@ use Rattle.x86_base.specs.declared.insn.Insn.{Insn}
 use Rattle.insn_decode.specs.declared.fault.DecodeFault.{DecodeFault}
 use Rattle.insn_decode.specs.declared.fault.DecodeFault.TheVariants as fault
 use Rattle.insn_decode.specs.Reading.{decode_of}
+use Rattle.image_file.specs.Image.{Contents}
 use Rattle.image_file.specs.Ram.{Memory, code_from}
 use Rattle.event_table.specs.declared.access.Access.{Access}
 use Rattle.event_table.specs.declared.access.Values.{Values}
@@ -11,9 +12,10 @@ use Rattle.event_table.specs.declared.end.End.{End}
 use Rattle.event_table.specs.declared.end.End.TheVariants as ends
 use Rattle.event_table.specs.declared.event.Event.{Event}
 use Rattle.event_table.specs.declared.event.Event.TheVariants.{One}
-use Rattle.event_table.specs.Events.{event_plan, exit_of, vc_code}
+use Rattle.event_table.specs.Events.{asked_by, event_plan, exit_of, vc_code}
+use Rattle.event_table.specs.Opening.{opening_vcpu}
 use Rattle.event_table.specs.Places.{Vcpu}
-use Rattle.event_table.specs.Plan.{Plan, Ends, Setting, setting, Stepped, Moved, Exits, Stops, stepped, asked, placed, end_of}
+use Rattle.event_table.specs.Plan.{Plan, Ends, Setting, setting, Stepped, Moved, Exits, Stops, stepped, step_answered, end_of}
 use Rattle.guest_interp.specs.declared.stepping.Next.{Next}
 use Rattle.guest_interp.specs.declared.stepping.Next.TheVariants.{Went, Vc, Ended as Stopped}
 use Rattle.guest_interp.specs.Table.{private_of}
@@ -22,18 +24,22 @@ use Rattle.guest_interp.specs.Table.{private_of}
 abbrev pub plan_of : Insn → Setting → Plan
 plan_of i s = event_plan i s (private_of i s)
 
+-- at a vCPU
+abbrev pub stepped_by : Insn → Vcpu → Stepped
+stepped_by i v = stepped v (plan_of i (setting v i.len))
+
 -- the instruction exits for an access, with this exit code
 pub record IsExit (code : ℕ) (i : Insn) (v : Vcpu) : Type 0 where
   pub access : Access
-  pub exits : stepped v (plan_of i (setting v i.len)) ≡ Exits access v
-  pub is_named : asked v (exit_of i (setting v i.len)) ≡ Some access
+  pub exits : stepped_by i v ≡ Exits access v
+  pub is_named : asked_by i v ≡ Some access
   pub is_code : code ≡ vc_code access
 
 -- the instruction is over, or asks for an access with nothing changed, or ends the vCPU with nothing changed
 abbrev pub Comes : Next → Insn → Vcpu → Vcpu → Type 0
-Comes Went i v w = stepped v (plan_of i (setting v i.len)) ≡ Moved w
+Comes Went i v w = stepped_by i v ≡ Moved w
 Comes (Vc code) i v w = (w ≡ v) × IsExit code i v
-Comes (Stopped stop) i v w = (w ≡ v) × (stepped v (plan_of i (setting v i.len)) ≡ Stops (end_of stop) v)
+Comes (Stopped stop) i v w = (w ≡ v) × (stepped_by i v ≡ Stops (end_of stop) v)
 
 abbrev pub is_vc : Next → Bool
 is_vc (Vc code) = true
@@ -47,6 +53,7 @@ fetched code rip (Err fault.Short) = Err (ends.BadAddress (if nat_lt rip code th
 fetched code rip (Err fault.TooLong) = Err ends.Undecoded
 fetched code rip (Err fault.Undecoded) = Err ends.Undecoded
 
+-- `decode_of` is told by the spellings alone in the law `read_by_spelling` of `insn_decode`
 abbrev pub insn_at : Memory → ℕ → Result Insn End
 insn_at ram rip = fetched ram.code rip (decode_of (code_from ram rip))
 
@@ -64,7 +71,7 @@ step_of v = stepped v (plan_by (insn_at v.ram v.regs.rip) v)
 
 -- how it goes on with the results of the access that its instruction asks
 unfoldable pub results_of : Values → Vcpu → Stepped
-results_of values v = placed values v (exit_by (insn_at v.ram v.regs.rip) v)
+results_of values v = step_answered values v (exit_by (insn_at v.ram v.regs.rip) v)
 
 -- a vCPU with the steps that it has counted
 pub record Counted : Type 0 where
@@ -73,6 +80,10 @@ pub record Counted : Type 0 where
 
 abbrev pub at_count : Vcpu → ℕ → Counted
 at_count v steps = record { vcpu = v; steps = steps }
+
+-- vCPU i of an image as it starts
+abbrev pub start_of : Contents → ℕ → Counted
+start_of image i = at_count (opening_vcpu image i) 0
 
 -- the steps of an end: HLT counts its own
 abbrev pub counted : End → ℕ → ℕ
@@ -90,7 +101,7 @@ stop_after steps (Moved v) more = more (at_count v (steps + 1))
 stop_after steps (Exits access v) more = Waits (One access) (at_count v steps)
 stop_after steps (Stops end v) more = Ended end (at_count v (counted end steps))
 
--- where it stops once an access is answered, which is one step
+-- Where it stops once an access is answered, which is one step. An answer asks nothing more, so that it never exits: the law OwnEnds says so.
 abbrev pub stop_answered : ℕ → Stepped → (Counted → Standstill) → Standstill
 stop_answered steps (Moved v) more = more (at_count v (steps + 1))
 stop_answered steps (Exits access v) more = Waits (One access) (at_count v (steps + 1))

@@ -1,20 +1,22 @@
 // The private step.
-ghost use Rattle.std.specs.Prelude.{◌≡◌, false, is_some, None, OnErr};
+ghost use Rattle.std.specs.Prelude.{◌≡◌, false, is_some, IfSome, None, OnErr};
 ghost use Rattle.x86_base.specs.Spelling.{IsSpelled};
 ghost use Rattle.insn_decode.specs.Laws.{HasCondition};
-ghost use Rattle.event_table.specs.Events.{comes_later, exit_of, kind_at};
+ghost use Rattle.event_table.specs.Events.{asked_by, comes_later, kind_at};
+ghost use Rattle.event_table.specs.Lawful.{IsLawfulAccess};
 ghost use Rattle.event_table.specs.Places.{vcpu};
-ghost use Rattle.event_table.specs.Plan.{after, asked, setting, stepped};
-ghost use Rattle.guest_interp.specs.Stepping.{Comes, is_vc};
-ghost use Rattle.guest_interp.specs.Table.{operation_of, other_of, private_of};
+ghost use Rattle.event_table.specs.Plan.{Does};
+ghost use Rattle.guest_interp.specs.Guest.{IsUntouched, asked_in, tried};
+ghost use Rattle.guest_interp.specs.Stepping.{Comes, is_vc, stepped_by};
+ghost use Rattle.guest_interp.specs.Table.{alu_op_of, other_of, private_of};
 
 use crate::calculation::arithmetic;
 use crate::conditions::{move_where, set_where};
 use crate::jumps::{cmc, jmp, jump_if, nop, put_carry, put_direction};
 use crate::moves::{lea, mov, movsx, movzx};
-use crate::pushes::{call, iretq, pop, push, ret};
+use crate::stack::{call, iretq, pop, push, ret};
 use alu_ops::AluOp;
-use event_table::{is_event, kind_of, named, row_of};
+use event_table::{Access, is_event, kind_of, named, row_of};
 use image_file::Ram;
 use insn_decode::laws::conditions;
 use x86_base::{Insn, Op, Regs, Stop};
@@ -32,7 +34,7 @@ pub enum Next {
 
 /// The operation of an instruction that calculates.
 fn operation(op: Op) -> Option<AluOp>
-    ensures value { result ≡ operation_of op }
+    ensures value { result ≡ alu_op_of op }
 {
     match op {
         Op::Add => Some(AluOp::Add),
@@ -57,12 +59,13 @@ fn operation(op: Op) -> Option<AluOp>
 }
 
 /// An instruction that neither calculates nor exits.
-fn other(regs: &mut Regs, ram: &mut Ram, insn: &Insn) -> Result<(), Stop>
+#[inline(always)]
+fn private_other(regs: &mut Regs, ram: &mut Ram, insn: &Insn) -> Result<(), Stop>
     requires condition { HasCondition insn.now.op }
     requires shown { comes_later insn.now ≡ false }
-    requires operation { operation_of insn.now.op ≡ None }
+    requires operation { alu_op_of insn.now.op ≡ None }
     requires private { kind_at insn.now.op insn.now.width 0 ≡ None }
-    ensures done { let v = vcpu regs.old ram.old in after result (vcpu regs.new ram.new) ≡ stepped v (other_of insn.now.op insn.now (setting v insn.now.len)) }
+    ensures done { Does result regs.old ram.old regs.new ram.new insn.now (other_of insn.now.op insn.now) }
     ensures kept { OnErr result (vcpu regs.new ram.new ≡ vcpu regs.old ram.old) }
 {
     match insn.op {
@@ -74,16 +77,16 @@ fn other(regs: &mut Regs, ram: &mut Ram, insn: &Insn) -> Result<(), Stop>
         Op::Pop => pop(regs, ram, insn)?,
         Op::Call => call(regs, ram, insn)?,
         Op::Ret => ret(regs, ram, insn)?,
-        Op::Jmp => jmp(regs, ram, insn),
-        Op::Jcc(condition) => jump_if(regs, ram, insn, condition),
+        Op::Jmp => jmp(regs, insn),
+        Op::Jcc(condition) => jump_if(regs, insn, condition),
         Op::Setcc(condition) => set_where(regs, ram, insn, condition)?,
         Op::Cmovcc(condition) => move_where(regs, ram, insn, condition)?,
-        Op::Cmc => cmc(regs, ram, insn),
-        Op::Clc => put_carry(regs, ram, insn, false),
-        Op::Stc => put_carry(regs, ram, insn, true),
-        Op::Cld => put_direction(regs, ram, insn, false),
-        Op::Std => put_direction(regs, ram, insn, true),
-        Op::Nop => nop(regs, ram, insn),
+        Op::Cmc => cmc(regs, insn),
+        Op::Clc => put_carry(regs, insn, false),
+        Op::Stc => put_carry(regs, insn, true),
+        Op::Cld => put_direction(regs, insn, false),
+        Op::Std => put_direction(regs, insn, true),
+        Op::Nop => nop(regs, insn),
         Op::Hlt => return Err(Stop::Halted),
         Op::Iretq => iretq(regs, ram, insn)?,
         _ => unreachable!(),
@@ -92,17 +95,39 @@ fn other(regs: &mut Regs, ram: &mut Ram, insn: &Insn) -> Result<(), Stop>
 }
 
 /// An instruction that doesn't exit.
+#[inline(always)]
 fn private(regs: &mut Regs, ram: &mut Ram, insn: &Insn) -> Result<(), Stop>
     requires condition { HasCondition insn.now.op }
     requires shown { comes_later insn.now ≡ false }
     requires private { kind_at insn.now.op insn.now.width 0 ≡ None }
-    ensures done { let v = vcpu regs.old ram.old in after result (vcpu regs.new ram.new) ≡ stepped v (private_of insn.now (setting v insn.now.len)) }
+    ensures done { Does result regs.old ram.old regs.new ram.new insn.now (private_of insn.now) }
     ensures kept { OnErr result (vcpu regs.new ram.new ≡ vcpu regs.old ram.old) }
 {
     match operation(insn.op) {
         Some(op) => arithmetic(regs, ram, insn, op),
-        None => other(regs, ram, insn),
+        None => private_other(regs, ram, insn),
     }
+}
+
+/// What one instruction, which was decoded at RIP, comes to: none where it is over, the access that it
+/// asks for, or how it stops the vCPU. Nothing changes but where it is over.
+#[inline(always)]
+pub fn attempt(regs: &mut Regs, ram: &mut Ram, insn: &Insn) -> Result<Option<Access>, Stop>
+    requires spelled { IsSpelled insn.now }
+    requires shown { comes_later insn.now ≡ false }
+    ensures done { tried result (vcpu regs.new ram.new) ≡ stepped_by insn.now (vcpu regs.old ram.old) }
+    ensures named { asked_in result ≡ asked_by insn.now (vcpu regs.old ram.old) }
+    ensures lawful { IfSome (asked_in result) IsLawfulAccess }
+    ensures untouched { IsUntouched result (vcpu regs.old ram.old) (vcpu regs.new ram.new) }
+{
+    if is_event(insn)
+        && let Some(access) = named(regs, ram, insn)
+    {
+        return Ok(Some(access));
+    }
+    conditions();
+    private(regs, ram, insn)?;
+    Ok(None)
 }
 
 /// One instruction, which was decoded at RIP. `Vc` comes exactly where it asks for an access, `Ended`
@@ -111,16 +136,11 @@ pub fn step(regs: &mut Regs, ram: &mut Ram, insn: &Insn) -> Next
     requires spelled { IsSpelled insn.now }
     requires shown { comes_later insn.now ≡ false }
     ensures comes { Comes result insn.now (vcpu regs.old ram.old) (vcpu regs.new ram.new) }
-    ensures named { let v = vcpu regs.old ram.old in is_vc result ≡ is_some (asked v (exit_of insn.now (setting v insn.now.len))) }
+    ensures named { is_vc result ≡ is_some (asked_by insn.now (vcpu regs.old ram.old)) }
 {
-    if is_event(insn)
-        && let Some(access) = named(regs, ram, insn)
-    {
-        return Next::Vc(row_of(&kind_of(&access)).code);
-    }
-    conditions();
-    match private(regs, ram, insn) {
-        Ok(()) => Next::Went,
+    match attempt(regs, ram, insn) {
+        Ok(None) => Next::Went,
+        Ok(Some(access)) => Next::Vc(row_of(&kind_of(&access)).code),
         Err(stop) => Next::Ended(stop),
     }
 }

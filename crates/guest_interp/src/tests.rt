@@ -1,7 +1,8 @@
 // Short guests, instruction by instruction.
 use crate::{Next, fetch, step};
 use event_table::{Access, End, Values, comes_later, named, place, raise};
-use image_file::{Image, Ram};
+use image_file::Ram;
+use image_samples::sample_image;
 use std::alloc::Global;
 use std::test::Fail;
 use x86_base::{Flags, Insn, Reg, Regs, Stop};
@@ -15,20 +16,9 @@ struct Gone {
     end: Option<Stop>,
 }
 
-/// An image of one page with this code, and a handler of #GP at an address.
-fn image_of(alloc: Global, code: &[u8], gp: u8) -> Result<Image, Fail> {
-    let mut file = b"GHCBIMG1\x01\0\0\0\0\x10\0\0".to_vec(alloc)?;
-    file.push((code.len() & 0xFF) as u8)?;
-    file.resize(32, 0)?;
-    file.push(gp)?;
-    file.resize(64, 0)?;
-    file.extend_from_slice(code)?;
-    Ok(Image::read(alloc, &file)?)
-}
-
 /// The RAM of one page that holds this code and zeros behind it.
 fn ram_of(alloc: Global, code: &[u8]) -> Result<Ram, Fail> {
-    Ok(image_of(alloc, code, 0)?.ram(alloc)?)
+    Ok(sample_image(alloc, code, 0, 0)?.ram(alloc)?)
 }
 
 /// A guest at address 0 of its code, with RSP at the end of RAM and a flags word.
@@ -310,7 +300,7 @@ fn a_handler_steps_over_an_instruction_that_is_refused(rt: HostRuntime) -> Resul
         0xB9, 0x99, 0, 0, 0, 0x0F, 0x32, 0xF4, 0x48, 0x83, 0xC4, 8, 0x48, 0x83, 0x04, 0x24, 2,
         0x48, 0xCF,
     ];
-    let image = image_of(rt.alloc(), &code, 8)?;
+    let image = sample_image(rt.alloc(), &code, 0, 8)?;
     let mut gone = opened(image.ram(rt.alloc())?, 2);
     go_on(&mut gone, 100);
     let Some((_, next, access)) = asked(&mut gone) else {
