@@ -1,17 +1,18 @@
 -- How far a vCPU goes, and that nothing is heard while it speaks.
 use Rattle.std.proofs.Common.{◌≡◌, ℕ, zero, suc, ◌+◌, ◌-◌, ◌<◌, ◌≤◌, List, [], ◌∷◌, ◌++◌, map, refl, arith, subst}
 use Rattle.page_words.specs.declared.item.Item.TheVariants.{Exit}
+use Rattle.page_words.specs.Told.{store}
 use Rattle.page_words.specs.Dialogue.{values_of}
 use Rattle.event_table.specs.declared.event.Event.{Event}
 use Rattle.event_table.specs.declared.event.Event.TheVariants.{One}
 use Rattle.event_table.specs.Plan.{Stepped, Moved, Exits, Stops}
-use Rattle.event_table.specs.Rows.{row_of, kind_of, registers_of}
+use Rattle.event_table.specs.Rows.{event_row, kind_of, registers_of}
 use Rattle.guest_interp.specs.Stepping.{Counted, at_count, step_of, Standstill, Waits, Ended, stop_after, next_of, next_within}
 use Rattle.ghcb_layout.specs.Address.{ghcb_of}
-use Rattle.vc_handler.specs.Wire.{wire, stored, store}
+use Rattle.vc_handler.specs.Wire.{wire, stored_words}
 use Rattle.vcpu_core.specs.declared.phase.Phase.{Phase}
 use Rattle.vcpu_core.specs.declared.phase.Phase.TheVariants as phase
-use Rattle.vcpu_core.specs.Running.{said_by, said_at}
+use Rattle.vcpu_core.specs.Running.{items_said_by, items_said_at}
 
 values_of-stores : (words : List (ℕ × ℕ)) (msr : ℕ) → values_of (map store words ++ Exit msr ∷ []) ≡ []
 values_of-stores [] msr = refl
@@ -19,13 +20,13 @@ values_of-stores (word ∷ words) msr = values_of-stores words msr
 
 -- nothing comes out while an event is shown
 pub values_of-wire : (i : ℕ) (event : Event) → values_of (wire i event) ≡ []
-values_of-wire i (One access) = values_of-stores (stored (row_of (kind_of access)) (registers_of access)) (ghcb_of i)
+values_of-wire i (One access) = values_of-stores (stored_words (event_row (kind_of access)) (registers_of access)) (ghcb_of i)
 
-values_of-said_at : (i : ℕ) (stop : Standstill) → values_of (said_at i stop) ≡ []
+values_of-said_at : (i : ℕ) (stop : Standstill) → values_of (items_said_at i stop) ≡ []
 values_of-said_at i (Waits event c) = values_of-wire i event
 values_of-said_at i (Ended end c) = refl
 
-pub values_of-said : (p : Phase) (budget i : ℕ) (c : Counted) → values_of (said_by p budget i c) ≡ []
+pub values_of-said : (p : Phase) (budget i : ℕ) (c : Counted) → values_of (items_said_by p budget i c) ≡ []
 values_of-said phase.New budget i c = refl
 values_of-said phase.Asked budget i c = refl
 values_of-said phase.Going budget i c = values_of-said_at i (next_within budget c)

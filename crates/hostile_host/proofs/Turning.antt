@@ -1,8 +1,8 @@
 -- One turn of a run, and the rest of it.
 use Rattle.std.proofs.Common.{◌≡◌, ℕ, zero, suc, ◌+◌, ◌-◌, ◌<◌, ◌≤◌, [], ◌∷◌, refl, ap, sym, ◌∙◌, subst, arith, Result, Ok, Err}
 use Rattle.page_words.specs.declared.item.Item.TheVariants.{Exit}
-use Rattle.page_words.specs.Dialogue.{Dialogue, over, saying, hearing, say, listen, ◌>>=◌}
-use Rattle.page_words.proofs.Same.{same_function, say_then, listen_then, listen_same, AllOf, all_say, all_listen}
+use Rattle.page_words.specs.Dialogue.{Dialogue, over, saying, say, listen, ◌>>=◌}
+use Rattle.page_words.proofs.Same.{say_then, listen_then, listen_same, AllOf, all_say, all_listen}
 use Rattle.image_file.specs.Image.{Contents}
 use Rattle.event_table.specs.declared.end.End.{End}
 use Rattle.event_table.specs.declared.end.End.TheVariants.{Spent, Terminated}
@@ -11,17 +11,18 @@ use Rattle.event_table.specs.declared.event.Event.{Event}
 use Rattle.event_table.specs.declared.outcome.Outcome.{Outcome}
 use Rattle.event_table.specs.declared.outcome.Outcome.TheVariants.{Done, Raise, Terminate}
 use Rattle.event_table.specs.Plan.{Stepped, Moved, Exits, Stops}
-use Rattle.guest_interp.specs.Stepping.{Counted, results_of, Standstill, Waits, Ended, stop_answered, next_within}
+use Rattle.guest_interp.specs.Stepping.{Counted, results_of, Standstill, Waits, Ended, stop_answered, next_within, start_of}
 use Rattle.vc_handler.specs.Accept.{accepting}
-use Rattle.vc_handler.specs.Version.{farewell, negotiated, question}
+use Rattle.vc_handler.specs.Version.{farewell, negotiating, question}
 use Rattle.vc_handler.specs.Wire.{wire}
 use Rattle.vcpu_core.specs.declared.phase.Phase.{Phase}
 use Rattle.vcpu_core.specs.declared.phase.Phase.TheVariants as phase
-use Rattle.vcpu_core.specs.State.{State, state, start_of}
-use Rattle.vcpu_core.specs.Running.{said_at, stopped}
-use Rattle.vcpu_core.specs.Resuming.{landed, raised, settling, agreeing, resuming}
-use Rattle.hostile_host.specs.Answered.{Ran, next_stop, events_of, agreed, run_of}
-use Rattle.hostile_host.specs.Turn.{turn_of}
+use Rattle.vcpu_core.specs.State.{State, state}
+use Rattle.vcpu_core.specs.Running.{items_said_at, state_stopped}
+use Rattle.vcpu_core.specs.Resuming.{state_answered, settling, agreeing, resuming}
+use Rattle.event_table.specs.Raising.{step_raised}
+use Rattle.hostile_host.specs.Answered.{Ran, stop_heard, events_of, run_agreed_from, run_of}
+use Rattle.hostile_host.specs.Turn.{turn_dialogue}
 use Rattle.hostile_host.proofs.Going.{IsWithin, next_stands}
 
 -- the rest of a run from where a vCPU stands, with so many events at most
@@ -40,17 +41,17 @@ events_ended zero image budget end c = refl
 events_ended (suc events) image budget end c = refl
 
 landed_rest : (events : ℕ) (image : Contents) (budget steps : ℕ) (s : Stepped) →
-    events_of events image budget (stop_answered steps s (λ gone. next_within budget gone)) ≡ rest_of events image budget (landed 0 steps s)
+    events_of events image budget (stop_answered steps s (λ gone. next_within budget gone)) ≡ rest_of events image budget (state_answered 0 steps s)
 landed_rest events image budget steps (Moved v) = refl
 landed_rest events image budget steps (Exits access v) = refl
 landed_rest events image budget steps (Stops end v) = events_ended events image budget end _
 
 -- what comes of an outcome, and the rest
 outcome_rest : (events : ℕ) (image : Contents) (budget : ℕ) (c : Counted) (outcome : Outcome) →
-    (next_stop image budget c outcome >>= (λ stop. events_of events image budget stop)) ≡ (settling image 0 c outcome >>= (λ s. rest_of events image budget s))
+    (stop_heard image budget c outcome >>= (λ stop. events_of events image budget stop)) ≡ (settling image 0 c outcome >>= (λ s. rest_of events image budget s))
 unfolding say ◌>>=◌
 outcome_rest events image budget c (Done reply) = landed_rest events image budget c.steps (results_of reply.values c.vcpu)
-outcome_rest events image budget c (Raise vector code) = landed_rest events image budget c.steps (raised image vector code c.vcpu)
+outcome_rest events image budget c (Raise vector code) = landed_rest events image budget c.steps (step_raised image vector code c.vcpu)
 outcome_rest events image budget c (Terminate reason) = ap (λ (r : Dialogue Ran). saying (Exit (farewell reason)) r) (events_ended events image budget (Terminated reason) c)
 
 -- an event, its reply, and the rest
@@ -73,21 +74,23 @@ less_one zero = zero
 less_one (suc events) = events
 
 stop_rest : (events : ℕ) (image : Contents) (budget low : ℕ) (stop : Standstill) → IsWithin low budget stop → budget ≤ events + low →
-    events_of events image budget stop ≡ (say (said_at 0 stop) (resuming image (stopped 0 stop)) >>= (λ s. rest_of (less_one events) image budget s))
+    events_of events image budget stop ≡ (say (items_said_at 0 stop) (resuming image (state_stopped 0 stop)) >>= (λ s. rest_of (less_one events) image budget s))
 stop_rest events image budget low (Ended end c) within enough = ended_rest events (less_one events) image budget end c
 stop_rest zero image budget low (Waits event c) within enough = absurd (omega (arith, within.0, within.1))
 stop_rest (suc events) image budget low (Waits event c) within enough = waits_rest events image budget event c
 
 agreed_rest : (image : Contents) (budget : ℕ) (version : Result ℕ Reason) →
-    agreed image budget version ≡ (agreeing 0 (start_of image 0) version >>= (λ s. rest_of budget image budget s))
+    run_agreed_from (start_of image 0) image budget version ≡ (agreeing 0 (start_of image 0) version >>= (λ s. rest_of budget image budget s))
 unfolding say ◌>>=◌
 agreed_rest image budget (Ok version) = refl
 agreed_rest image budget (Err reason) = refl
 
 new_rest : (image : Contents) (budget : ℕ) →
-    run_of image budget ≡ (say (Exit question ∷ []) (hearing (λ word. agreeing 0 (start_of image 0) (negotiated word))) >>= (λ s. rest_of budget image budget s))
-unfolding say ◌>>=◌
-new_rest image budget = ap (λ (next : ℕ → Dialogue Ran). saying (Exit question) (hearing next)) (same_function _ _ (λ word. agreed_rest image budget (negotiated word)))
+    run_of image budget ≡ (say (Exit question ∷ []) (listen negotiating (λ version. agreeing 0 (start_of image 0) version)) >>= (λ s. rest_of budget image budget s))
+new_rest image budget =
+    ap (λ (d : Dialogue Ran). say (Exit question ∷ []) d) (listen_same negotiating _ _ (λ version. agreed_rest image budget version)
+    ∙ sym (listen_then negotiating (λ version. agreeing 0 (start_of image 0) version) (λ s. rest_of budget image budget s)))
+    ∙ sym (say_then (Exit question ∷ []) _ _)
 
 -- A vCPU stands where a turn begins: it is new, or goes by itself, and there are events enough for its budget.
 abbrev pub IsStanding : Phase → ℕ → Contents → ℕ → Counted → Type 0
@@ -97,11 +100,11 @@ IsStanding _ events image budget c = ⊥
 
 -- a turn, and then the rest
 pub turn_rest : (p : Phase) (events : ℕ) (image : Contents) (budget : ℕ) (c : Counted) → IsStanding p events image budget c →
-    rest_by p events image budget c ≡ (turn_of image budget (state 0 c p) >>= (λ s. rest_of (less_one events) image budget s))
+    rest_by p events image budget c ≡ (turn_dialogue image budget (state 0 c p) >>= (λ s. rest_of (less_one events) image budget s))
 turn_rest phase.New events image budget c stands =
-    let start : run_of image budget ≡ (turn_of image budget (state 0 c phase.New) >>= (λ s. rest_of budget image budget s)) =
-    subst (λ (d : Counted). run_of image budget ≡ (turn_of image budget (state 0 d phase.New) >>= (λ s. rest_of budget image budget s))) (sym stands.0) (new_rest image budget) in
-    subst (λ n. run_of image budget ≡ (turn_of image budget (state 0 c phase.New) >>= (λ s. rest_of (less_one n) image budget s))) (sym stands.1) start
+    let start : run_of image budget ≡ (turn_dialogue image budget (state 0 c phase.New) >>= (λ s. rest_of budget image budget s)) =
+    subst (λ (d : Counted). run_of image budget ≡ (turn_dialogue image budget (state 0 d phase.New) >>= (λ s. rest_of budget image budget s))) (sym stands.0) (new_rest image budget) in
+    subst (λ n. run_of image budget ≡ (turn_dialogue image budget (state 0 c phase.New) >>= (λ s. rest_of (less_one n) image budget s))) (sym stands.1) start
 turn_rest phase.Going events image budget c stands = stop_rest events image budget c.steps (next_within budget c) (next_stands budget c stands.1) stands.0
 turn_rest phase.Asked events image budget c stands = absurd stands
 turn_rest (phase.Waits event) events image budget c stands = absurd stands
@@ -124,7 +127,7 @@ Goes_on (phase.Ended end) left events budget steps = Unit {0}
 abbrev pub IsNext : ℕ → ℕ → ℕ → State → Type 0
 IsNext left events budget s = (s.number ≡ 0) × Goes_on s.phase left events budget s.cpu.steps
 
-landed_next : (left events budget steps : ℕ) (s : Stepped) → budget ≤ suc events + steps → steps < budget → budget ≤ left + steps → IsNext left events budget (landed 0 steps s)
+landed_next : (left events budget steps : ℕ) (s : Stepped) → budget ≤ suc events + steps → steps < budget → budget ≤ left + steps → IsNext left events budget (state_answered 0 steps s)
 landed_next left events budget steps (Moved v) enough less room = (refl, (omega arith, omega arith, omega arith))
 landed_next left events budget steps (Exits access v) enough less room = (refl, tt)
 landed_next left events budget steps (Stops end v) enough less room = (refl, tt)
@@ -133,11 +136,11 @@ outcome_next : (left events : ℕ) (image : Contents) (budget : ℕ) (c : Counte
     AllOf (IsNext left events budget) (settling image 0 c outcome)
 unfolding say
 outcome_next left events image budget c (Done reply) enough less room = landed_next left events budget c.steps (results_of reply.values c.vcpu) enough less room
-outcome_next left events image budget c (Raise vector code) enough less room = landed_next left events budget c.steps (raised image vector code c.vcpu) enough less room
+outcome_next left events image budget c (Raise vector code) enough less room = landed_next left events budget c.steps (step_raised image vector code c.vcpu) enough less room
 outcome_next left events image budget c (Terminate reason) enough less room = (refl, tt)
 
 stop_next : (left events : ℕ) (image : Contents) (budget low : ℕ) (stop : Standstill) → IsWithin low budget stop → budget ≤ events + low → budget ≤ left + low →
-    AllOf (IsNext left (less_one events) budget) (say (said_at 0 stop) (resuming image (stopped 0 stop)))
+    AllOf (IsNext left (less_one events) budget) (say (items_said_at 0 stop) (resuming image (state_stopped 0 stop)))
 stop_next left events image budget low (Ended end c) within enough room = all_say _ [] (over (state 0 c (phase.Ended end))) (refl, tt)
 stop_next left zero image budget low (Waits event c) within enough room = absurd (omega (arith, within.0, within.1))
 stop_next left (suc events) image budget low (Waits event c) within enough room =
@@ -150,12 +153,12 @@ agreed_next image budget (Err reason) = (refl, tt)
 
 -- what a turn leads to
 pub turn_next : (p : Phase) (events : ℕ) (image : Contents) (budget : ℕ) (c : Counted) → IsStanding p events image budget c →
-    AllOf (IsNext (left_by p budget c.steps) (less_one events) budget) (turn_of image budget (state 0 c p))
+    AllOf (IsNext (left_by p budget c.steps) (less_one events) budget) (turn_dialogue image budget (state 0 c p))
 turn_next phase.New events image budget c stands =
-    let start : AllOf (IsNext (budget + 1) budget budget) (turn_of image budget (state 0 (start_of image 0) phase.New)) =
-    all_say _ (Exit question ∷ []) _ (λ word. agreed_next image budget (negotiated word)) in
-    subst (λ n. AllOf (IsNext (budget + 1) (less_one n) budget) (turn_of image budget (state 0 c phase.New))) (sym stands.1)
-    (subst (λ (d : Counted). AllOf (IsNext (budget + 1) budget budget) (turn_of image budget (state 0 d phase.New))) (sym stands.0) start)
+    let start : AllOf (IsNext (budget + 1) budget budget) (turn_dialogue image budget (state 0 (start_of image 0) phase.New)) =
+    all_say _ (Exit question ∷ []) _ (all_listen _ negotiating _ (λ version. agreed_next image budget version)) in
+    subst (λ n. AllOf (IsNext (budget + 1) (less_one n) budget) (turn_dialogue image budget (state 0 c phase.New))) (sym stands.1)
+    (subst (λ (d : Counted). AllOf (IsNext (budget + 1) budget budget) (turn_dialogue image budget (state 0 d phase.New))) (sym stands.0) start)
 turn_next phase.Going events image budget c stands =
     stop_next (budget - c.steps) events image budget c.steps (next_within budget c) (next_stands budget c stands.1) stands.0 (omega (arith, stands.1))
 turn_next phase.Asked events image budget c stands = absurd stands

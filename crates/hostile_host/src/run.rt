@@ -1,13 +1,14 @@
 // The run of vCPU 0 against any host.
 ghost use Rattle.std.specs.Prelude.{◌≡◌, ◌++◌, List, false, IfOk, IfSome, OnOk, OnErr};
 ghost use Rattle.page_words.specs.declared.item.Item.{Item};
-ghost use Rattle.page_words.specs.Dialogue.{Begins_to, Runs, values_of};
+ghost use Rattle.page_words.specs.Dialogue.{IsPrefix, RunsPart, Runs, values_of};
 ghost use Rattle.page_words.specs.Recording.{recording, roomless};
 ghost use Rattle.vcpu_core.specs.declared.phase.Phase.TheVariants as phases;
-ghost use Rattle.vcpu_core.specs.State.{is_waiting, start_of, state};
+ghost use Rattle.vcpu_core.specs.State.{is_waiting, state};
+ghost use Rattle.guest_interp.specs.Stepping.{start_of};
 ghost use Rattle.hostile_host.specs.Answered.{run_of};
-ghost use Rattle.hostile_host.specs.Told.{Answers, HasRun, IsFirst};
-ghost use Rattle.hostile_host.specs.Turn.{turn_of};
+ghost use Rattle.hostile_host.specs.Told.{IsRunOn, HasRun, IsFirst};
+ghost use Rattle.hostile_host.specs.Turn.{turn_dialogue};
 
 use image_file::Image;
 use page_words::{Page, Recorded};
@@ -17,28 +18,29 @@ use vcpu_core::{Progress, Vcpu};
 /// The most items between two reserves: an event's store and exit, or the loads of its reply and a farewell.
 const MOST_ITEMS: usize = 320;
 
-// One exit, and what is heard; or the end.
+/// One exit, and what is heard; or the end.
 fn turn<P: Page>(
     vcpu: &mut Vcpu,
     image: &Image,
     steps: u64,
     page: &mut Recorded<P>,
 ) -> Result<(), OutOfMemory>
-    ensures runs { OnOk result (Runs (turn_of image.now steps vcpu.old) vcpu.new
+    ensures runs { OnOk result (Runs (turn_dialogue image.now steps vcpu.old) vcpu.new
         (roomless (recording P.told page.old)) (roomless (recording P.told page.new))) }
     ensures rests { OnOk result (is_waiting vcpu.new.phase ≡ false) }
-    ensures begins { OnErr result (Begins_to (turn_of image.now steps vcpu.old)
+    ensures begins { OnErr result (RunsPart (turn_dialogue image.now steps vcpu.old)
         (roomless (recording P.told page.old)) (roomless (recording P.told page.new))) }
 {
     page.reserve(MOST_ITEMS)?;
-    if let Progress::Exited = vcpu.run_to_exit(image, page, steps) {
+    let exited = vcpu.run_to_exit(image, page, steps) == Progress::Exited;
+    if exited {
         page.reserve(MOST_ITEMS)?;
         vcpu.resume(image, page);
     }
     Ok(())
 }
 
-// Runs a new vCPU to its end.
+/// Runs a new vCPU to its end.
 fn run<P: Page>(
     mut vcpu: Vcpu,
     image: &Image,
@@ -48,7 +50,7 @@ fn run<P: Page>(
     requires start { vcpu ≡ state 0 (start_of image.now 0) phases.New }
     ensures runs { IfOk result (λ vcpu. HasRun image.now steps vcpu
         (roomless (recording P.told page.old)) (roomless (recording P.told page.new))) }
-    ensures begins { OnErr result (Begins_to (run_of image.now steps)
+    ensures begins { OnErr result (RunsPart (run_of image.now steps)
         (roomless (recording P.told page.old)) (roomless (recording P.told page.new))) }
 {
     'turns: loop {
@@ -69,11 +71,15 @@ pub fn hostile_run<P: Page>(
     page: &mut Recorded<P>,
 ) -> Result<Vcpu, OutOfMemory>
     ensures told { IfOk result (λ vcpu. (made : List Item) × (page.new.items ≡ page.old.items ++ made)
-        × Answers image.now steps vcpu made (values_of made)) }
+        × IsRunOn image.now steps vcpu made (values_of made)) }
     // Where the page tells which words are ahead, the run is on these, and zeros after them.
     ensures ahead { IfOk result (λ vcpu. IfSome (P.told page.old.page).ahead (λ words.
-        (made : List Item) × (page.new.items ≡ page.old.items ++ made) × Answers image.now steps vcpu made words)) }
-    ensures refused { OnErr result ((made : List Item) × (page.new.items ≡ page.old.items ++ made) × IsFirst image.now steps made (values_of made)) }
+        (made : List Item) × (page.new.items ≡ page.old.items ++ made) × IsRunOn image.now steps vcpu made words)) }
+    // So the values that came are the first of those words.
+    ensures values { IfSome (P.told page.old.page).ahead (λ words.
+        (made : List Item) × (page.new.items ≡ page.old.items ++ made) × IsPrefix (values_of made) words) }
+    ensures refused { OnErr result ((made : List Item) × (page.new.items ≡ page.old.items ++ made)
+        × IsFirst image.now steps made (values_of made)) }
     ensures refused_ahead { OnErr result (IfSome (P.told page.old.page).ahead (λ words.
         (made : List Item) × (page.new.items ≡ page.old.items ++ made) × IsFirst image.now steps made words)) }
 {

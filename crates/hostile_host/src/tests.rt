@@ -1,9 +1,9 @@
 // Guests over scripts: each trace item by item, the end, the steps and RAX.
-ghost use Rattle.std.specs.Prelude.{◌<◌, length};
+ghost use Rattle.std.specs.Prelude.{◌<◌};
 
 use crate::hostile_run;
 use event_table::{End, Reason};
-use image_file::Image;
+use image_samples::sample_image;
 use page_words::{Item, Recorded, Script, Word};
 use std::alloc::Global;
 use std::test::Fail;
@@ -21,22 +21,16 @@ const READS: [u8; 17] = [
     0x48, 0xB8, 0x88, 0x77, 0x66, 0x55, 0x44, 0x33, 0x22, 0x11, 0xBA, 0xF8, 3, 0, 0, 0xEC, 0xF4,
 ];
 
-// A run and its record.
+/// A run and its record.
 #[derive(Drop)]
 struct Run {
     vcpu: Vcpu,
     page: Recorded<Script>,
 }
 
-// A guest of that code against a script.
-fn run_over(alloc: Global, code: &[u8], words: &[u64]) -> Result<Run, Fail>
-    requires { length code.now < 256 }
-{
-    let mut file = Vec::from_slice(alloc, b"GHCBIMG1\x01\0\0\0\0\x10\0\0")?;
-    file.push(code.len() as u8)?;
-    file.resize(64, 0)?;
-    file.extend_from_slice(code)?;
-    let image = Image::read(alloc, &file)?;
+/// A guest of that code against a script.
+fn run_over(alloc: Global, code: &[u8], words: &[u64]) -> Result<Run, Fail> {
+    let image = sample_image(alloc, code, 0, 0)?;
     let mut page = Recorded::new(alloc, Script::new(Vec::from_slice(alloc, words)?));
     let vcpu = hostile_run(alloc, &image, 100, &mut page)?;
     Ok(Run { vcpu, page })
@@ -54,7 +48,7 @@ fn load(number: u16, value: u64) -> Item
     Item::Load(Word::new(number).unwrap(), value)
 }
 
-// What the printing guest makes up to its exit.
+/// What the printing guest makes up to its exit.
 fn printed() -> [Item; 12] {
     [
         Item::Exit(2),
@@ -72,7 +66,7 @@ fn printed() -> [Item; 12] {
     ]
 }
 
-// What the reading guest makes up to its exit, where its event has this word.
+/// What the reading guest makes up to its exit, where its event has this word.
 fn asked(info: u64) -> [Item; 11] {
     [
         Item::Exit(2),
@@ -89,7 +83,7 @@ fn asked(info: u64) -> [Item; 11] {
     ]
 }
 
-// Whether these are all the items, in two parts.
+/// Whether these are all the items, in two parts.
 fn are(items: &[Item], first: &[Item], last: &[Item]) -> bool {
     items.len() >= first.len() && &items[..first.len()] == first && &items[first.len()..] == last
 }
@@ -175,7 +169,7 @@ fn a_result_is_cut_to_its_width(rt: HostRuntime) -> Result<(), Fail> {
     Ok(())
 }
 
-// Whether two records agree up to the value that comes after so many.
+/// Whether two records agree up to the value that comes after so many.
 fn agree(items: &[Item], others: &[Item], values: usize) -> bool {
     let mut left = values;
     for (item, other) in items.iter().zip(others) {

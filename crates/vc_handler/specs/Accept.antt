@@ -15,11 +15,11 @@ use Rattle.event_table.specs.declared.event.Event.TheVariants.{One}
 use Rattle.event_table.specs.declared.outcome.Outcome.{Outcome}
 use Rattle.event_table.specs.declared.outcome.Outcome.TheVariants.{Done, Raise, Terminate}
 use Rattle.event_table.specs.declared.row.Results.{Results}
-use Rattle.event_table.specs.Rows.{row_of, kind_of}
+use Rattle.event_table.specs.Rows.{event_row, kind_of}
 
--- a word, where it is asked for, and else 0
+-- a word, where it is wanted, and else 0
 abbrev pub load_if : Bool → ℕ → Program ℕ
-load_if is word = if is then load word else pure 0
+load_if wanted word = if wanted then load word else pure 0
 
 -- the upper word of the valid bitmap has a bit of a result
 abbrev pub has_upper : Results → Bool
@@ -39,39 +39,47 @@ has_all r b =
     && (not r.d || has_bit b (word_number Rdx)) && (not r.b || has_bit b (word_number Rbx))
 
 -- whole words: they are cut to the row's width where they are placed
-abbrev pub values : Results → Program Values
-values r = do
+abbrev pub loaded_values : Results → Program Values
+loaded_values r = do
   a ← load_if r.a (word_number Rax)
   c ← load_if r.c (word_number Rcx)
   d ← load_if r.d (word_number Rdx)
   b ← load_if r.b (word_number Rbx)
   pure (record { a = a; c = c; d = d; b = b })
 
-abbrev pub done : Values → Outcome
-done v = Done (record { values = v; bytes = [] })
+abbrev pub outcome_done : Values → Outcome
+outcome_done v = Done (record { values = v; bytes = [] })
 
 -- the results, where all of them have their bits
 abbrev pub results_by : Results → Bitmap → Program Outcome
-results_by r b = if has_all r b then values r >>= (λ v. pure (done v)) else pure (Terminate (MissingResult b.low b.high))
+results_by r b =
+    if has_all r b then loaded_values r >>= (λ v. pure (outcome_done v)) else pure (Terminate (MissingResult b.low b.high))
 
-abbrev pub results : Results → Program Outcome
-results r = bitmap r >>= (λ b. results_by r b)
+abbrev pub loaded_results : Results → Program Outcome
+loaded_results r = bitmap r >>= (λ b. results_by r b)
 
-abbrev pub requested : ℕ → Result Inject BadInject → Outcome
-requested word (Ok i) = Raise i.vector i.code
-requested word (Err bad) = Terminate (BadException word)
+abbrev pub outcome_requested : ℕ → Result Inject BadInject → Outcome
+outcome_requested word (Ok i) = Raise i.vector i.code
+outcome_requested word (Err bad) = Terminate (BadException word)
 
 -- the exception that is asked for
-abbrev pub exception : Program Outcome
-exception = do
+abbrev pub loaded_exception : Program Outcome
+loaded_exception = do
   word ← load (word_number ExitInfo2)
-  pure (requested word (request_of word))
+  pure (outcome_requested word (request_of word))
+
+abbrev pub by_status : Results → ℕ → Program Outcome
+by_status r status =
+    if status % 2 ^ 32 == 0 then loaded_results r
+    else if status % 2 ^ 32 == 1 then loaded_exception
+    else pure (Terminate (BadStatus status))
 
 abbrev pub accepting_by : Results → Program Outcome
 accepting_by r = do
   status ← load (word_number ExitInfo1)
-  if status % 2 ^ 32 == 0 then results r else if status % 2 ^ 32 == 1 then exception else pure (Terminate (BadStatus status))
+  by_status r status
 
--- The status is the low half of SW_EXITINFO1: 0 says done, and 1 asks for an exception; the guest terminates at any other.
+-- The status is the low half of SW_EXITINFO1: 0 says done, and 1 asks for an exception; the guest terminates at any
+-- other.
 abbrev pub accepting : Event → Program Outcome
-accepting (One access) = accepting_by (row_of (kind_of access)).results
+accepting (One access) = accepting_by (event_row (kind_of access)).results

@@ -9,7 +9,7 @@ use Rattle.event_table.specs.declared.event.Event.{Event}
 use Rattle.event_table.specs.declared.event.Event.TheVariants.{One}
 use Rattle.event_table.specs.Events.{exit_of, vc_code}
 use Rattle.event_table.specs.Places.{Vcpu}
-use Rattle.event_table.specs.Plan.{asked, setting}
+use Rattle.event_table.specs.Plan.{access_asked, setting}
 use Rattle.vc_handler.specs.declared.handler.Unsupported.{Unsupported}
 
 abbrev pub unsupported : ℕ → Result Event Unsupported
@@ -22,7 +22,7 @@ of_code code (Some access) = if vc_code access == code then Ok (One access) else
 
 -- what the instruction asks, where there is one
 abbrev pub begun_by : ℕ → Vcpu → Result Insn DecodeFault → Result Event Unsupported
-begun_by code v (Ok insn) = of_code code (asked v (exit_of insn (setting v insn.len)))
+begun_by code v (Ok insn) = of_code code (access_asked v (exit_of insn (setting v insn.len)))
 begun_by code v (Err fault) = unsupported code
 
 -- The event of the instruction at RIP, which is decoded again; none where the bytes there are no instruction that

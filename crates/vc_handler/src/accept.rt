@@ -1,37 +1,22 @@
 // How the words of a reply are taken.
-ghost use Rattle.std.specs.Prelude.{◌≡◌, ◌<◌, ◌≤◌, ◌+◌};
-ghost use Rattle.page_words.specs.Programs.{Reads, load};
-ghost use Rattle.ghcb_layout.specs.Field.{word_number};
+ghost use Rattle.std.specs.Prelude.{◌≡◌, ◌≤◌, ◌+◌};
+ghost use Rattle.page_words.specs.Dialogue.{Reads};
 ghost use Rattle.exit_info.specs.Inject.{request_of};
 ghost use Rattle.vc_handler.specs.Room.{room_of};
 ghost use Rattle.vc_handler.specs.Accept as accepting;
 
 use event_table::{Bytes, Outcome, Reason, Reply, Results, Values};
 use exit_info::Inject;
-use ghcb_layout::{BITMAP_HIGH, BITMAP_LOW, Bitmap, Field, bit_of, word_of};
+use ghcb_layout::{Bitmap, Field, bit_of, word_of};
 use page_words::{Page, Word};
 
-/// Loads a word by its number, where it is asked for, and else gives 0.
-fn load_if<P: Page>(page: &mut P, is: bool, number: u16) -> u64
-    requires number { number < 512 }
+/// Loads a word, where it is wanted, and else gives 0.
+fn load_if<P: Page>(page: &mut P, wanted: bool, word: Word) -> u64
     requires room { 1 ≤ room_of (P.told page.old) }
-    ensures reads { Reads (accepting.load_if is number) result (P.told page.old) (P.told page.new) }
+    ensures reads { Reads (accepting.load_if wanted word) result (P.told page.old) (P.told page.new) }
     ensures room { room_of (P.told page.old) ≤ room_of (P.told page.new) + 1 }
 {
-    if is {
-        page.load(Word::new(number).unwrap())
-    } else {
-        0
-    }
-}
-
-/// Loads a field, where it is a result, and else gives 0.
-fn result_if<P: Page>(page: &mut P, is: bool, field: Field) -> u64
-    requires room { 1 ≤ room_of (P.told page.old) }
-    ensures reads { Reads (accepting.load_if is (word_number field)) result (P.told page.old) (P.told page.new) }
-    ensures room { room_of (P.told page.old) ≤ room_of (P.told page.new) + 1 }
-{
-    if is { page.load(word_of(field)) } else { 0 }
+    if wanted { page.load(word) } else { 0 }
 }
 
 /// Whether the upper word of the valid bitmap has a bit of a result.
@@ -47,8 +32,8 @@ fn load_bitmap<P: Page>(page: &mut P, results: &Results) -> Bitmap
     ensures reads { Reads (accepting.bitmap results.now) result (P.told page.old) (P.told page.new) }
     ensures room { room_of (P.told page.old) ≤ room_of (P.told page.new) + 2 }
 {
-    let low = load_if(page, results.a, BITMAP_LOW);
-    let high = load_if(page, has_upper(results), BITMAP_HIGH);
+    let low = load_if(page, results.a, Word::BITMAP_LOW);
+    let high = load_if(page, has_upper(results), Word::BITMAP_HIGH);
     Bitmap { low, high }
 }
 
@@ -65,19 +50,19 @@ fn has_all(results: &Results, bitmap: &Bitmap) -> bool
 /// Loads the words of the results.
 fn load_values<P: Page>(page: &mut P, results: &Results) -> Values
     requires room { 4 ≤ room_of (P.told page.old) }
-    ensures reads { Reads (accepting.values results.now) result (P.told page.old) (P.told page.new) }
+    ensures reads { Reads (accepting.loaded_values results.now) result (P.told page.old) (P.told page.new) }
     ensures room { room_of (P.told page.old) ≤ room_of (P.told page.new) + 4 }
 {
-    let a = result_if(page, results.a, Field::Rax);
-    let c = result_if(page, results.c, Field::Rcx);
-    let d = result_if(page, results.d, Field::Rdx);
-    let b = result_if(page, results.b, Field::Rbx);
+    let a = load_if(page, results.a, word_of(Field::Rax));
+    let c = load_if(page, results.c, word_of(Field::Rcx));
+    let d = load_if(page, results.d, word_of(Field::Rdx));
+    let b = load_if(page, results.b, word_of(Field::Rbx));
     Values { a, c, d, b }
 }
 
 /// An accepted reply without a block.
 fn done(values: Values) -> Outcome
-    ensures value { result ≡ accepting.done values }
+    ensures value { result ≡ accepting.outcome_done values }
 {
     let bytes = Bytes::new();
     Outcome::Done(Reply { values, bytes })
@@ -86,7 +71,7 @@ fn done(values: Values) -> Outcome
 /// Takes the results, once the status says that they are there.
 fn take_results<P: Page>(page: &mut P, results: &Results) -> Outcome
     requires room { 6 ≤ room_of (P.told page.old) }
-    ensures reads { Reads (accepting.results results.now) result (P.told page.old) (P.told page.new) }
+    ensures reads { Reads (accepting.loaded_results results.now) result (P.told page.old) (P.told page.new) }
     ensures room { room_of (P.told page.old) ≤ room_of (P.told page.new) + 6 }
 {
     let bitmap = load_bitmap(page, results);
@@ -99,7 +84,7 @@ fn take_results<P: Page>(page: &mut P, results: &Results) -> Outcome
 
 /// What a word of SW_EXITINFO2 asks for.
 fn requested(word: u64) -> Outcome
-    ensures value { result ≡ accepting.requested word (request_of word) }
+    ensures value { result ≡ accepting.outcome_requested word (request_of word) }
 {
     match Inject::read(word) {
         Ok(Inject { vector, code }) => Outcome::Raise { vector, code },
@@ -110,7 +95,7 @@ fn requested(word: u64) -> Outcome
 /// Takes the exception, once the status says that one is asked for.
 fn take_exception<P: Page>(page: &mut P) -> Outcome
     requires room { 1 ≤ room_of (P.told page.old) }
-    ensures reads { Reads accepting.exception result (P.told page.old) (P.told page.new) }
+    ensures reads { Reads accepting.loaded_exception result (P.told page.old) (P.told page.new) }
     ensures room { room_of (P.told page.old) ≤ room_of (P.told page.new) + 1 }
 {
     let word = page.load(word_of(Field::ExitInfo2));

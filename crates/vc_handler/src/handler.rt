@@ -1,14 +1,14 @@
 // The #VC handler of a vCPU.
 ghost use Rattle.std.specs.Prelude.{◌≡◌, [], ◌∷◌, IfOk, IfSome};
 ghost use Rattle.page_words.specs.Told.{HasRoom, Makes};
-ghost use Rattle.page_words.specs.Programs.{Reads};
+ghost use Rattle.page_words.specs.Dialogue.{Reads};
 ghost use Rattle.page_words.specs.declared.item.Item.TheVariants.{Exit};
 ghost use Rattle.ghcb_layout.specs.Address as pages;
-ghost use Rattle.event_table.specs.Lawful.{IsLawful, IsLawfulAccess};
+ghost use Rattle.event_table.specs.Lawful.{IsLawfulEvent, IsLawfulAccess};
 ghost use Rattle.event_table.specs.Places.{vcpu};
 ghost use Rattle.vc_handler.specs.Accept.{accepting};
 ghost use Rattle.vc_handler.specs.Begin.{begun};
-ghost use Rattle.vc_handler.specs.Version.{Negotiates, farewell, question};
+ghost use Rattle.vc_handler.specs.Version.{farewell, negotiated, negotiating, question};
 ghost use Rattle.vc_handler.specs.Wire.{wire};
 
 use crate::accept::take_reply;
@@ -30,11 +30,25 @@ pub struct Unsupported(pub u64);
 fn of_code(code: u64, access: Option<Access>) -> Result<Event, Unsupported>
     requires lawful { IfSome access IsLawfulAccess }
     ensures event { result ≡ Rattle.vc_handler.specs.Begin.of_code code access }
-    ensures lawful { IfOk result IsLawful }
+    ensures lawful { IfOk result IsLawfulEvent }
 {
     match access {
         Some(access) if row_of(&kind_of(&access)).code == code => Ok(Event::One(access)),
         _ => Err(Unsupported(code)),
+    }
+}
+
+/// The version that an answer of the host offers: version 1, where the word is an answer and its range has
+/// 1, whatever its other bits.
+fn offered(word: u64) -> Result<u16, Reason>
+    ensures version { result ≡ negotiated word }
+{
+    let max = word >> 48;
+    let min = word >> 32 & 0xFFFF;
+    if word & 0xFFF == 0x001 && min <= 1 && 1 <= max {
+        Ok(1)
+    } else {
+        Err(Reason::NoProtocol(word))
     }
 }
 
@@ -73,7 +87,7 @@ impl Vc {
     /// again, asks. Unsupported exactly where the bytes there are no instruction that exits with this code.
     pub fn begin(&self, code: u64, regs: &Regs, ram: &Ram) -> Result<Event, Unsupported>
         ensures event { result ≡ begun code (vcpu regs.now ram.now) }
-        ensures lawful { IfOk result IsLawful }
+        ensures lawful { IfOk result IsLawfulEvent }
     {
         let Ok(insn) = decode(ram.code_at(regs.rip)) else {
             return Err(Unsupported(code));
@@ -83,7 +97,7 @@ impl Vc {
 
     /// Shows an event: exactly its wire form, in order.
     pub fn show<P: Page>(&self, event: &Event, page: &mut P)
-        requires lawful { IsLawful event.now }
+        requires lawful { IsLawfulEvent event.now }
         requires room { HasRoom (P.told page.old) 320 }
         ensures wire { Makes (P.told page.old) (wire self.now event.now) (P.told page.new) }
     {
@@ -94,7 +108,7 @@ impl Vc {
 
     /// Takes the reply to an event: exactly these loads, each word at most once, and what they come to.
     pub fn accept<P: Page>(&self, event: &Event, page: &mut P) -> Outcome
-        requires lawful { IsLawful event.now }
+        requires lawful { IsLawfulEvent event.now }
         requires room { HasRoom (P.told page.old) 320 }
         ensures reads { Reads (accepting event.now) result (P.told page.old) (P.told page.new) }
         ensures room { HasRoom (P.told page.new) 1 }
@@ -115,16 +129,9 @@ impl Vc {
     /// other bits.
     pub fn negotiate<P: Page>(&self, page: &mut P) -> Result<u16, Reason>
         requires room { HasRoom (P.told page.old) 1 }
-        ensures version { Negotiates result (P.told page.old) (P.told page.new) }
+        ensures reads { Reads negotiating result (P.told page.old) (P.told page.new) }
     {
-        let word = page.msr();
-        let max = word >> 48;
-        let min = word >> 32 & 0xFFFF;
-        if word & 0xFFF == 0x001 && min <= 1 && 1 <= max {
-            Ok(1)
-        } else {
-            Err(Reason::NoProtocol(word))
-        }
+        offered(page.msr())
     }
 
     /// Tells the host that the guest ends its communication, and why: no version fits, or the general reason.

@@ -3,10 +3,14 @@
 //!
 //! Which words an event shows, and which come back, is its row of the event table alone. No call takes
 //! memory.
+//!
+//! A vCPU knows which event its instruction asks, so it shows the event with no #VC code: [`Vc::begin`] is for
+//! a caller to whom a #VC is delivered with its code, and no program here calls it.
 #![tactic(auto)]
 
 mod accept;
 mod handler;
+pub mod laws;
 #[cfg(test)]
 mod tests;
 mod wire;

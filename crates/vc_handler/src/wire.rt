@@ -1,40 +1,29 @@
 // How the words of an event are shown.
 ghost use Rattle.std.specs.Prelude.{◌≡◌, ◌<◌, ◌≤◌, ◌+◌, map, [], ◌∷◌, ◌++◌};
-ghost use Rattle.page_words.specs.Told.{Makes};
+ghost use Rattle.page_words.specs.Told.{Makes, store as store_item};
 ghost use Rattle.page_words.specs.declared.item.Item.TheVariants.{Exit};
 ghost use Rattle.vc_handler.specs.Room.{room_of};
-ghost use Rattle.vc_handler.specs.Wire.{bitmap_of as bits_of_words, given, shown, store as store_item, stored};
+ghost use Rattle.ghcb_layout.specs.Bitmap.{bitmap_of as bits_of_words, word_if};
+ghost use Rattle.vc_handler.specs.Wire.{shown_words, stored_words};
 
 use event_table::{Registers, Row};
-use ghcb_layout::{
-    BITMAP_HIGH, BITMAP_LOW, Bitmap, Field, LAST_WORD, bit_if, protocol_word, word_of,
-};
+use ghcb_layout::{Bitmap, Field, bit_if, protocol_word, word_of};
 use page_words::{Page, Word};
 
-/// Stores a word by its number.
-fn store<P: Page>(page: &mut P, number: u16, value: u64)
-    requires number { number < 512 }
-    requires room { 1 ≤ room_of (P.told page.old) }
-    ensures makes { Makes (P.told page.old) (map store_item ((number, value) ∷ [])) (P.told page.new) }
-    ensures room { room_of (P.told page.old) ≤ room_of (P.told page.new) + 1 }
-{
-    page.store(Word::new(number).unwrap(), value);
-}
-
 /// Shows a field, where its row has it.
-fn show_if<P: Page>(page: &mut P, field: Field, is: bool, value: u64)
+fn show_if<P: Page>(page: &mut P, field: Field, wanted: bool, value: u64)
     requires room { 1 ≤ room_of (P.told page.old) }
-    ensures makes { Makes (P.told page.old) (map store_item (given field is value)) (P.told page.new) }
+    ensures makes { Makes (P.told page.old) (map store_item (word_if field wanted value)) (P.told page.new) }
     ensures room { room_of (P.told page.old) ≤ room_of (P.told page.new) + 1 }
 {
-    if is {
+    if wanted {
         page.store(word_of(field), value);
     }
 }
 
 /// The valid bitmap of the words that are shown.
 fn bitmap_of(row: &Row, registers: &Registers) -> Bitmap
-    ensures value { result ≡ bits_of_words (shown row.now registers.now) }
+    ensures value { result ≡ bits_of_words (shown_words row.now registers.now) }
 {
     let low = bit_if(Field::Cpl, row.shows.cpl) + bit_if(Field::Rax, row.shows.a);
     let registers_shown = bit_if(Field::Rcx, row.shows.c) + bit_if(Field::Rdx, row.shows.d);
@@ -51,7 +40,7 @@ fn bitmap_of(row: &Row, registers: &Registers) -> Bitmap
 /// Shows the words of a row, in the order of the page.
 fn show_row<P: Page>(page: &mut P, row: &Row, registers: &Registers)
     requires room { 8 ≤ room_of (P.told page.old) }
-    ensures makes { Makes (P.told page.old) (map store_item (shown row.now registers.now)) (P.told page.new) }
+    ensures makes { Makes (P.told page.old) (map store_item (shown_words row.now registers.now)) (P.told page.new) }
     ensures room { room_of (P.told page.old) ≤ room_of (P.told page.new) + 8 }
 {
     let xcr = row.shows_xcr0(registers.a);
@@ -69,14 +58,15 @@ fn show_row<P: Page>(page: &mut P, row: &Row, registers: &Registers)
 /// a new word.
 pub fn show_event<P: Page>(page: &mut P, row: &Row, registers: &Registers, ghcb: u64)
     requires room { 14 ≤ room_of (P.told page.old) }
-    ensures makes { Makes (P.told page.old) (map store_item (stored row.now registers.now) ++ Exit ghcb ∷ []) (P.told page.new) }
+    ensures makes { Makes (P.told page.old) (map store_item (stored_words row.now registers.now) ++ Exit ghcb ∷ [])
+        (P.told page.new) }
 {
     let bitmap = bitmap_of(row, registers);
-    store(page, BITMAP_LOW, 0);
-    store(page, BITMAP_HIGH, 0);
+    page.store(Word::BITMAP_LOW, 0);
+    page.store(Word::BITMAP_HIGH, 0);
     show_row(page, row, registers);
-    store(page, BITMAP_LOW, bitmap.low);
-    store(page, BITMAP_HIGH, bitmap.high);
-    store(page, LAST_WORD, protocol_word(1, 0));
+    page.store(Word::BITMAP_LOW, bitmap.low);
+    page.store(Word::BITMAP_HIGH, bitmap.high);
+    page.store(Word::LAST, protocol_word(1, 0));
     page.exit(ghcb);
 }

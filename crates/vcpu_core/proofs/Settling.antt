@@ -2,9 +2,8 @@
 use Rattle.std.proofs.Common.{◌≡◌, ℕ, [], ◌∷◌, Result, Ok, Err, refl, sym, ap, ◌∙◌, subst}
 use Rattle.page_words.specs.declared.item.Item.TheVariants.{Exit}
 use Rattle.page_words.specs.Told.{Told, Makes}
-use Rattle.page_words.specs.Programs.{Reads}
-use Rattle.page_words.specs.Dialogue.{Runs, over}
-use Rattle.page_words.proofs.Dialogues.{runs_over, runs_say, runs_hear, runs_listen}
+use Rattle.page_words.specs.Dialogue.{Reads, Runs, over}
+use Rattle.page_words.proofs.Dialogues.{runs_over, runs_say, runs_listen}
 use Rattle.image_file.specs.Image.{Contents}
 use Rattle.event_table.specs.declared.end.End.{End}
 use Rattle.event_table.specs.declared.end.End.TheVariants.{Terminated}
@@ -16,12 +15,12 @@ use Rattle.event_table.specs.Places.{Vcpu}
 use Rattle.event_table.specs.Plan.{Stepped}
 use Rattle.guest_interp.specs.Stepping.{Counted, at_count}
 use Rattle.vc_handler.specs.Accept.{accepting}
-use Rattle.vc_handler.specs.Version.{Negotiates, farewell, negotiated}
+use Rattle.vc_handler.specs.Version.{farewell, negotiating}
 use Rattle.vcpu_core.specs.declared.phase.Phase.{Phase}
 use Rattle.vcpu_core.specs.declared.phase.Phase.TheVariants as phase
-use Rattle.vcpu_core.specs.Guest.{as_placed, phase_placed, steps_placed}
-use Rattle.vcpu_core.specs.State.{State, state}
-use Rattle.vcpu_core.specs.Resuming.{agreeing, landed, resuming_by, settling, terminating}
+use Rattle.guest_interp.specs.Guest.{as_placed, steps_placed}
+use Rattle.vcpu_core.specs.State.{phase_placed, State, state}
+use Rattle.vcpu_core.specs.Resuming.{agreeing, state_answered, resuming_by, settling, terminating}
 
 -- it ends the communication
 pub terminates : (i : ℕ) (c : Counted) (reason : Reason) (t u : Told) → Makes t (Exit (farewell reason) ∷ []) u →
@@ -29,30 +28,28 @@ pub terminates : (i : ℕ) (c : Counted) (reason : Reason) (t u : Told) → Make
 terminates i c reason t u makes = runs_say (Exit (farewell reason) ∷ []) (over (state i c (phase.Ended (Terminated reason)))) (state i c (phase.Ended (Terminated reason))) t u u refl makes (runs_over _ u)
 
 -- the host has version 1
-pub agrees : (image : Contents) (i : ℕ) (c : Counted) (r : Result ℕ Reason) (version : ℕ) (t u : Told) → r ≡ Ok version → Negotiates r t u →
+pub agrees : (image : Contents) (i : ℕ) (c : Counted) (r : Result ℕ Reason) (version : ℕ) (t u : Told) → r ≡ Ok version → Reads negotiating r t u →
     Runs (resuming_by phase.Asked image i c) (state i c phase.Going) t u
-agrees image i c r version t u is heard =
-    let goes : Runs (agreeing i c (negotiated heard.word)) (state i c phase.Going) u u =
-    subst (λ (x : Result ℕ Reason). Runs (agreeing i c x) (state i c phase.Going) u u) (sym is ∙ heard.version) (runs_over (state i c phase.Going) u) in
-    runs_hear heard.word (λ word. agreeing i c (negotiated word)) (state i c phase.Going) t u u heard.makes goes
+agrees image i c r version t u is reads =
+    runs_listen negotiating (λ (x : Result ℕ Reason). agreeing i c x) r (state i c phase.Going) t u u reads
+    (subst (λ (x : Result ℕ Reason). Runs (agreeing i c x) (state i c phase.Going) u u) (sym is) (runs_over (state i c phase.Going) u))
 
 -- it has not
-pub disagrees : (image : Contents) (i : ℕ) (c : Counted) (r : Result ℕ Reason) (reason : Reason) (t u v : Told) → r ≡ Err reason → Negotiates r t u → Makes u (Exit (farewell reason) ∷ []) v →
+pub disagrees : (image : Contents) (i : ℕ) (c : Counted) (r : Result ℕ Reason) (reason : Reason) (t u v : Told) → r ≡ Err reason → Reads negotiating r t u → Makes u (Exit (farewell reason) ∷ []) v →
     Runs (resuming_by phase.Asked image i c) (state i c (phase.Ended (Terminated reason))) t v
-disagrees image i c r reason t u v is heard makes =
+disagrees image i c r reason t u v is reads makes =
     let end = state i c (phase.Ended (Terminated reason)) in
-    let goes : Runs (agreeing i c (negotiated heard.word)) end u v =
-    subst (λ (x : Result ℕ Reason). Runs (agreeing i c x) end u v) (sym is ∙ heard.version) (terminates i c reason u v makes) in
-    runs_hear heard.word (λ word. agreeing i c (negotiated word)) end t u v heard.makes goes
+    runs_listen negotiating (λ (x : Result ℕ Reason). agreeing i c x) r end t u v reads
+    (subst (λ (x : Result ℕ Reason). Runs (agreeing i c x) end u v) (sym is) (terminates i c reason u v makes))
 
 -- an answered access lands where the code puts it
-landed_is : (i steps count : ℕ) (r : Result (Unit {0}) End) (v : Vcpu) (s : Stepped) → as_placed r v ≡ s → count ≡ steps_placed r steps → landed i steps s ≡ state i (at_count v count) (phase_placed r)
-landed_is i steps count (Ok x) v s is counts = ap (λ (y : Stepped). landed i steps y) (sym is) ∙ ap (λ n. state i (at_count v n) phase.Going) (sym counts)
-landed_is i steps count (Err end) v s is counts = ap (λ (y : Stepped). landed i steps y) (sym is) ∙ ap (λ n. state i (at_count v n) (phase.Ended end)) (sym counts)
+landed_is : (i steps count : ℕ) (r : Result (Unit {0}) End) (v : Vcpu) (s : Stepped) → as_placed r v ≡ s → count ≡ steps_placed r steps → state_answered i steps s ≡ state i (at_count v count) (phase_placed r)
+landed_is i steps count (Ok x) v s is counts = ap (λ (y : Stepped). state_answered i steps y) (sym is) ∙ ap (λ n. state i (at_count v n) phase.Going) (sym counts)
+landed_is i steps count (Err end) v s is counts = ap (λ (y : Stepped). state_answered i steps y) (sym is) ∙ ap (λ n. state i (at_count v n) (phase.Ended end)) (sym counts)
 
 pub lands : (i steps count : ℕ) (r : Result (Unit {0}) End) (v : Vcpu) (s : Stepped) (t : Told) → as_placed r v ≡ s → count ≡ steps_placed r steps →
-    Runs (over (landed i steps s)) (state i (at_count v count) (phase_placed r)) t t
-lands i steps count r v s t is counts = subst (λ (x : State). Runs (over (landed i steps s)) x t t) (landed_is i steps count r v s is counts) (runs_over (landed i steps s) t)
+    Runs (over (state_answered i steps s)) (state i (at_count v count) (phase_placed r)) t t
+lands i steps count r v s t is counts = subst (λ (x : State). Runs (over (state_answered i steps s)) x t t) (landed_is i steps count r v s is counts) (runs_over (state_answered i steps s) t)
 
 -- the reply is read, and then what comes of it
 pub takes : (image : Contents) (i : ℕ) (c : Counted) (event : Event) (outcome : Outcome) (s : State) (t u v : Told) → Reads (accepting event) outcome t u → Runs (settling image i c outcome) s u v →

@@ -1,7 +1,7 @@
 -- How many items one event makes.
 use Rattle.std.specs.Prelude.{ℕ, ◌+◌, ◌<◌, List, length}
 use Rattle.page_words.specs.declared.item.Item.{Item}
-use Rattle.page_words.specs.Programs.{Follows}
+use Rattle.page_words.specs.Dialogue.{Follows, listen, over}
 use Rattle.event_table.specs.declared.event.Event.{Event}
 use Rattle.event_table.specs.declared.outcome.Outcome.{Outcome}
 use Rattle.vc_handler.specs.Accept.{accepting}
@@ -9,4 +9,5 @@ use Rattle.vc_handler.specs.Wire.{wire}
 
 -- An event's wire form, the loads of its reply and a termination's exit are fewer than 320 items together.
 abbrev pub FewItems : Type 0
-FewItems = (i : ℕ) (event : Event) (outcome : Outcome) (loads : List Item) → Follows (accepting event) loads outcome → length (wire i event) + length loads + 1 < 320
+FewItems = (i : ℕ) (event : Event) (outcome : Outcome) (loads : List Item) →
+    Follows (listen (accepting event) (λ o. over o)) loads outcome → length (wire i event) + length loads + 1 < 320

@@ -1,4 +1,3 @@
-pub mod Guest
 pub mod State
 pub mod Running
 pub mod Resuming

@@ -1,40 +1,31 @@
 -- A vCPU hears the host.
-use Rattle.std.specs.Prelude.{◌≡◌, ℕ, ◌+◌, ◌⊎◌, [], ◌∷◌, Result, Ok, Err}
+use Rattle.std.specs.Prelude.{ℕ, ◌+◌, [], ◌∷◌, Result, Ok, Err}
 use Rattle.page_words.specs.declared.item.Item.TheVariants.{Exit}
-use Rattle.page_words.specs.Dialogue.{Dialogue, over, hearing, say, listen}
+use Rattle.page_words.specs.Dialogue.{Dialogue, over, say, listen}
 use Rattle.image_file.specs.Image.{Contents}
 use Rattle.event_table.specs.declared.end.End.TheVariants.{Terminated}
 use Rattle.event_table.specs.declared.end.Reason.{Reason}
 use Rattle.event_table.specs.declared.outcome.Outcome.{Outcome}
 use Rattle.event_table.specs.declared.outcome.Outcome.TheVariants.{Done, Raise, Terminate}
 use Rattle.event_table.specs.declared.event.Event.TheVariants.{One}
-use Rattle.event_table.specs.Places.{Vcpu}
-use Rattle.event_table.specs.Plan.{Stepped, Moved, Exits, Stops, setting, stepped}
-use Rattle.event_table.specs.Raising.{raise_of}
+use Rattle.event_table.specs.Plan.{Stepped, Moved, Exits, Stops}
+use Rattle.event_table.specs.Raising.{IsRaisable, step_raised}
 use Rattle.guest_interp.specs.Stepping.{Counted, at_count, counted, results_of}
 use Rattle.vc_handler.specs.Accept.{accepting}
-use Rattle.vc_handler.specs.Version.{farewell, negotiated}
+use Rattle.vc_handler.specs.Version.{farewell, negotiating}
 use Rattle.vcpu_core.specs.declared.phase.Phase.{Phase}
 use Rattle.vcpu_core.specs.declared.phase.Phase.TheVariants as phase
 use Rattle.vcpu_core.specs.State.{State, state}
-
--- the delivery of an exception at the instruction
-abbrev pub raised : Contents → ℕ → ℕ → Vcpu → Stepped
-raised image vector code v = stepped v (raise_of image.header (setting v 0) vector code)
-
--- an exception that can be delivered: #UD or #GP
-abbrev pub IsRaisable : ℕ → Type 0
-IsRaisable vector = (vector ≡ 6) ⊎ (vector ≡ 13)
 
 abbrev pub IsTakable : Outcome → Type 0
 IsTakable (Raise vector code) = IsRaisable vector
 IsTakable _ = Unit {0}
 
 -- vCPU i once its access is answered, which is one step; an answer asks nothing more
-abbrev pub landed : ℕ → ℕ → Stepped → State
-landed i steps (Moved v) = state i (at_count v (steps + 1)) phase.Going
-landed i steps (Exits access v) = state i (at_count v (steps + 1)) (phase.Waits (One access))
-landed i steps (Stops end v) = state i (at_count v (counted end steps)) (phase.Ended end)
+abbrev pub state_answered : ℕ → ℕ → Stepped → State
+state_answered i steps (Moved v) = state i (at_count v (steps + 1)) phase.Going
+state_answered i steps (Exits access v) = state i (at_count v (steps + 1)) (phase.Waits (One access))
+state_answered i steps (Stops end v) = state i (at_count v (counted end steps)) (phase.Ended end)
 
 -- it tells the host that it ends the communication, and has ended
 abbrev pub terminating : ℕ → Counted → Reason → Dialogue State
@@ -42,8 +33,8 @@ terminating i c reason = say (Exit (farewell reason) ∷ []) (over (state i c (p
 
 -- A reply's results go to their places, an exception is delivered, or the communication ends.
 abbrev pub settling : Contents → ℕ → Counted → Outcome → Dialogue State
-settling image i c (Done reply) = over (landed i c.steps (results_of reply.values c.vcpu))
-settling image i c (Raise vector code) = over (landed i c.steps (raised image vector code c.vcpu))
+settling image i c (Done reply) = over (state_answered i c.steps (results_of reply.values c.vcpu))
+settling image i c (Raise vector code) = over (state_answered i c.steps (step_raised image vector code c.vcpu))
 settling image i c (Terminate reason) = terminating i c reason
 
 -- it goes on at version 1, or ends the communication
@@ -51,9 +42,10 @@ abbrev pub agreeing : ℕ → Counted → Result ℕ Reason → Dialogue State
 agreeing i c (Ok version) = over (state i c phase.Going)
 agreeing i c (Err reason) = terminating i c reason
 
--- The host's versions are read of the MSR, and the reply to an event of the page; one that waits for nothing hears nothing.
+-- The host's versions are read of the MSR, and the reply to an event of the page; one that waits for nothing hears
+-- nothing.
 abbrev pub resuming_by : Phase → Contents → ℕ → Counted → Dialogue State
-resuming_by phase.Asked image i c = hearing (λ word. agreeing i c (negotiated word))
+resuming_by phase.Asked image i c = listen negotiating (λ version. agreeing i c version)
 resuming_by (phase.Waits event) image i c = listen (accepting event) (λ outcome. settling image i c outcome)
 resuming_by stays image i c = over (state i c stays)
 

@@ -12,32 +12,32 @@ use Rattle.vcpu_core.specs.declared.vcpu.Progress.TheVariants as progress
 use Rattle.vcpu_core.specs.State.{State, state}
 
 -- vCPU i where a plain one stops: it waits for the event, or has ended
-abbrev pub stopped : ℕ → Standstill → State
-stopped i (Waits event c) = state i c (phase.Waits event)
-stopped i (Ended end c) = state i c (phase.Ended end)
+abbrev pub state_stopped : ℕ → Standstill → State
+state_stopped i (Waits event c) = state i c (phase.Waits event)
+state_stopped i (Ended end c) = state i c (phase.Ended end)
 
 -- what is said there: the event's wire form, or nothing
-abbrev pub said_at : ℕ → Standstill → List Item
-said_at i (Waits event c) = wire i event
-said_at i (Ended end c) = []
+abbrev pub items_said_at : ℕ → Standstill → List Item
+items_said_at i (Waits event c) = wire i event
+items_said_at i (Ended end c) = []
 
 -- A new vCPU asks the host for its versions, and one that goes by itself comes to its next stop; any other stays.
-abbrev pub gone_by : Phase → ℕ → ℕ → Counted → State
-gone_by phase.New budget i c = state i c phase.Asked
-gone_by phase.Going budget i c = stopped i (next_within budget c)
-gone_by stays budget i c = state i c stays
+abbrev pub advanced_by : Phase → ℕ → ℕ → Counted → State
+advanced_by phase.New budget i c = state i c phase.Asked
+advanced_by phase.Going budget i c = state_stopped i (next_within budget c)
+advanced_by stays budget i c = state i c stays
 
-abbrev pub gone : ℕ → State → State
-gone budget s = gone_by s.phase budget s.number s.cpu
+abbrev pub state_advanced : ℕ → State → State
+state_advanced budget s = advanced_by s.phase budget s.number s.cpu
 
 -- what is said on the way
-abbrev pub said_by : Phase → ℕ → ℕ → Counted → List Item
-said_by phase.New budget i c = Exit question ∷ []
-said_by phase.Going budget i c = said_at i (next_within budget c)
-said_by _ budget i c = []
+abbrev pub items_said_by : Phase → ℕ → ℕ → Counted → List Item
+items_said_by phase.New budget i c = Exit question ∷ []
+items_said_by phase.Going budget i c = items_said_at i (next_within budget c)
+items_said_by _ budget i c = []
 
-abbrev pub said : ℕ → State → List Item
-said budget s = said_by s.phase budget s.number s.cpu
+abbrev pub items_said : ℕ → State → List Item
+items_said budget s = items_said_by s.phase budget s.number s.cpu
 
 -- Ended where it has ended, and else it stands at an exit
 abbrev pub progress_in : Phase → Progress

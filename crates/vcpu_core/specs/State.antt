@@ -1,13 +1,13 @@
 -- A vCPU between two calls.
-use Rattle.std.specs.Prelude.{ℕ, ◌-◌, ◌^◌, ◌<◌, Bool, true, false, Option, Some, None, Ok, ◌≡◌}
-use Rattle.image_file.specs.Image.{Contents}
+use Rattle.std.specs.Prelude.{ℕ, ◌-◌, ◌^◌, ◌<◌, Bool, true, false, Option, Some, None, Result, Ok, Err}
 use Rattle.event_table.specs.declared.end.End.{End}
-use Rattle.event_table.specs.Lawful.{IsLawful, count_of}
-use Rattle.event_table.specs.Opening.{opened}
-use Rattle.guest_interp.specs.Stepping.{Counted, at_count, insn_at}
+use Rattle.event_table.specs.Lawful.{IsLawfulEvent, count_of}
+use Rattle.guest_interp.specs.Stepping.{Counted}
+use Rattle.guest_interp.specs.Guest.{IsInsnAt, counted_vcpu}
 use Rattle.x86_base.specs.declared.insn.Insn.{Insn}
+use Rattle.vcpu_core.specs.declared.handled_guest.HandledGuest.{HandledGuest}
 use Rattle.vcpu_core.specs.declared.phase.Phase.{Phase}
-use Rattle.vcpu_core.specs.declared.phase.Phase.TheVariants.{Asked, Waits, Ended}
+use Rattle.vcpu_core.specs.declared.phase.Phase.TheVariants.{Asked, Going, Waits, Ended}
 
 -- its number, the plain vCPU with its counted steps, and where it stands
 pub record State : Type 0 where
@@ -18,9 +18,14 @@ pub record State : Type 0 where
 abbrev pub state : ℕ → Counted → Phase → State
 state number cpu phase = record { number = number; cpu = cpu; phase = phase }
 
--- the plain vCPU i of an image as it starts
-abbrev pub start_of : Contents → ℕ → Counted
-start_of image i = at_count (opened image i) 0
+-- a guest with its handler, and where it stands
+abbrev pub standing : HandledGuest → Phase → State
+standing g phase = state g.vc (counted_vcpu g.guest) phase
+
+-- where it stands once its access is answered
+abbrev pub phase_placed : {A : Type 0} → Result A End → Phase
+phase_placed (Ok _) = Going
+phase_placed (Err end) = Ended end
 
 -- the end, where it has ended
 abbrev pub end_in : Phase → Option End
@@ -40,15 +45,15 @@ pending_in _ = 0
 
 -- the event that waits is lawful
 abbrev pub IsLawfulPhase : Phase → Type 0
-IsLawfulPhase (Waits event) = IsLawful event
+IsLawfulPhase (Waits event) = IsLawfulEvent event
 IsLawfulPhase _ = Unit {0}
 
 -- its instruction is the one at RIP
 abbrev pub IsThere : Phase → Insn → Counted → Type 0
-IsThere (Waits event) insn c = Ok insn ≡ insn_at c.vcpu.ram c.vcpu.regs.rip
+IsThere (Waits event) insn c = IsInsnAt insn c.vcpu
 IsThere _ insn c = Unit {0}
 
 -- and a step is left for it
 abbrev pub IsKept : Phase → ℕ → Type 0
-IsKept (Waits event) steps = IsLawful event × (steps < 2 ^ 64 - 1)
+IsKept (Waits event) steps = IsLawfulEvent event × (steps < 2 ^ 64 - 1)
 IsKept _ steps = Unit {0}

@@ -4,12 +4,11 @@
 //! What it says and hears is told of every page, whoever stands behind it. No call takes memory.
 #![tactic(auto)]
 
-mod guest;
+mod handled_guest;
 pub mod laws;
 mod phase;
 #[cfg(test)]
 mod tests;
-mod turning;
 mod vcpu;
 
 pub use vcpu::{Progress, Vcpu};

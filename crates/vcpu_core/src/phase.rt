@@ -40,7 +40,7 @@ impl Phase {
         }
     }
 
-    /// How many accesses the event is that it waits for.
+    /// The number of accesses of the event that it waits for.
     pub fn pending(&self) -> u16
         ensures pending { result ≡ pending_in self.now }
     {

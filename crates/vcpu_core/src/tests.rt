@@ -2,6 +2,7 @@
 use crate::{Progress, Vcpu};
 use event_table::{End, Reason};
 use image_file::Image;
+use image_samples::sample_image;
 use page_words::{Page, Word, Words};
 use std::alloc::Global;
 use std::test::Fail;
@@ -12,14 +13,8 @@ const VERSION_1: u64 = 0x0001_0001_0000_0001;
 
 /// MOV EDX, 3F8h; IN AL, DX; RDMSR; at 8 OUT DX, AL; HLT. The handler of #UD is at 8.
 fn image(alloc: Global) -> Result<Image, Fail> {
-    let mut file = [0; 74];
-    file[..8].copy_from_slice(b"GHCBIMG1");
-    file[8] = 1;
-    file[13] = 0x10;
-    file[16] = 10;
-    file[28] = 8;
-    file[64..].copy_from_slice(&[0xBA, 0xF8, 3, 0, 0, 0xEC, 0x0F, 0x32, 0xEE, 0xF4]);
-    Ok(Image::read(alloc, &file)?)
+    let code = [0xBA, 0xF8, 3, 0, 0, 0xEC, 0x0F, 0x32, 0xEE, 0xF4];
+    Ok(sample_image(alloc, &code, 8, 0)?)
 }
 
 /// A vCPU over a page, once it has asked for the versions and heard this word.

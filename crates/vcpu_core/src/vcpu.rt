@@ -4,18 +4,19 @@ ghost use Rattle.image_file.specs.Image.{opening_ram};
 ghost use Rattle.page_words.specs.Told.{HasRoom, Makes};
 ghost use Rattle.page_words.specs.Dialogue.{Runs};
 ghost use Rattle.vcpu_core.specs.declared.phase.Phase.TheVariants as phases;
-ghost use Rattle.vcpu_core.specs.State.{IsLawfulPhase, end_in, is_waiting, pending_in, start_of, state};
-ghost use Rattle.vcpu_core.specs.Running.{gone, progress_in, said};
+ghost use Rattle.vcpu_core.specs.State.{IsLawfulPhase, end_in, is_waiting, pending_in, state};
+ghost use Rattle.guest_interp.specs.Stepping.{start_of};
+ghost use Rattle.vcpu_core.specs.Running.{state_advanced, progress_in, items_said};
 ghost use Rattle.vcpu_core.specs.Resuming.{resuming};
 
-use crate::guest::Guest;
+use crate::handled_guest::HandledGuest;
 use crate::phase::Phase;
-use crate::turning::{go_on, hear};
 use event_table::End;
+use guest_interp::Guest;
 use image_file::{Image, Ram};
-use insn_decode::NOP;
 use page_words::Page;
 use std::marker::Model;
+use vc_handler::Vc;
 use x86_base::{Insn, Regs};
 
 /// What comes of going on: the vCPU stands at an exit, or has ended.
@@ -28,22 +29,20 @@ pub enum Progress {
 /// A vCPU of an image: its registers, its RAM, the steps that it has counted, and where it stands.
 #[derive(Drop)]
 pub struct Vcpu {
-    number: u16,
-    guest: Guest,
+    handled: HandledGuest,
     phase: Phase,
-    // Where it waits for an event, the instruction that asks it.
-    insn: Insn,
 }
 
 impl Model for Vcpu {
-    ghost use Rattle.vcpu_core.specs.State.{State, IsKept, IsThere, state};
-    ghost use Rattle.vcpu_core.specs.Guest.{plain};
+    ghost use Rattle.vcpu_core.specs.State.{State, IsKept, IsThere, standing};
+    ghost use Rattle.guest_interp.specs.Guest.{counted_vcpu};
 
     ghost Value = { State };
 
-    ghost view = { λ v. state v.number (plain v.guest) v.phase };
+    ghost view = { λ v. standing v.handled v.phase };
 
-    ghost invariant = { λ v. IsKept v.phase v.guest.steps × IsThere v.phase v.insn (plain v.guest) };
+    ghost invariant = { λ v. IsKept v.phase v.handled.guest.steps
+        × IsThere v.phase v.handled.insn (counted_vcpu v.handled.guest) };
 }
 
 impl Vcpu {
@@ -52,11 +51,14 @@ impl Vcpu {
         requires opening { ram ≡ opening_ram image.now }
         ensures start { result ≡ state vcpu (start_of image.now vcpu) phases.New }
     {
-        Vcpu {
-            number: vcpu,
+        let handled = HandledGuest {
+            vc: Vc::new(vcpu),
             guest: Guest::start(image, vcpu, ram),
+            insn: Insn::NOP,
+        };
+        Vcpu {
+            handled,
             phase: Phase::New,
-            insn: NOP,
         }
     }
 
@@ -64,21 +66,21 @@ impl Vcpu {
     pub fn regs(&self) -> &Regs
         ensures regs { result.now ≡ self.now.cpu.vcpu.regs }
     {
-        &self.guest.regs
+        &self.handled.guest.regs
     }
 
     /// The RAM.
     pub fn ram(&self) -> &Ram
         ensures ram { result.now ≡ self.now.cpu.vcpu.ram }
     {
-        &self.guest.ram
+        &self.handled.guest.ram
     }
 
     /// The steps that it has counted.
     pub fn steps(&self) -> u64
         ensures steps { result ≡ self.now.cpu.steps }
     {
-        self.guest.steps
+        self.handled.guest.steps
     }
 
     /// The end, where it has ended.
@@ -95,7 +97,7 @@ impl Vcpu {
         self.phase.is_waiting()
     }
 
-    /// How many accesses the event is that it waits for: 0 where it waits for the host's versions, or
+    /// The number of accesses of the event that it waits for: 0 where it waits for the host's versions, or
     /// for nothing.
     pub fn pending(&self) -> u16
         ensures pending { result ≡ pending_in self.now.phase }
@@ -108,20 +110,13 @@ impl Vcpu {
     /// exit, and one that has ended stays ended.
     pub fn run_to_exit<P: Page>(&mut self, _image: &Image, page: &mut P, budget: u64) -> Progress
         requires room { HasRoom (P.told page.old) 320 }
-        ensures says { Makes (P.told page.old) (said budget self.old) (P.told page.new) }
-        ensures goes { self.new ≡ gone budget self.old }
+        ensures says { Makes (P.told page.old) (items_said budget self.old) (P.told page.new) }
+        ensures goes { self.new ≡ state_advanced budget self.old }
         ensures progress { result ≡ progress_in self.new.phase }
         ensures lawful { IsLawfulPhase self.new.phase }
         ensures number { self.new.number ≡ self.old.number }
     {
-        self.phase = go_on(
-            &mut self.guest,
-            &mut self.insn,
-            self.phase,
-            self.number,
-            page,
-            budget,
-        );
+        self.phase = self.handled.advance(self.phase, page, budget);
         match self.phase {
             Phase::Ended(_) => Progress::Ended,
             _ => Progress::Exited,
@@ -137,13 +132,6 @@ impl Vcpu {
         ensures number { self.new.number ≡ self.old.number }
         ensures rests { is_waiting self.new.phase ≡ false }
     {
-        self.phase = hear(
-            &mut self.guest,
-            &self.insn,
-            self.phase,
-            self.number,
-            image,
-            page,
-        );
+        self.phase = self.handled.take_answer(self.phase, image, page);
     }
 }
