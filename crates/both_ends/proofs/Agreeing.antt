@@ -1,38 +1,41 @@
 -- Both ends of the page agree.
-use Rattle.std.proofs.Common.{◌≡◌, ℕ, ◌+◌, ◌%◌, ◌^◌, ◌<◌, Bool, true, false, Ok, List, [], ◌∷◌, ◌++◌, length, refl, sym, ap, ◌∙◌, subst, lit<}
+use Rattle.std.proofs.Common.{◌≡◌, ℕ, ◌+◌, ◌%◌, ◌^◌, ◌<◌, Bool, true, false, List, [], ◌∷◌, ◌++◌, length, refl, sym, ap, ◌∙◌, subst, lit<}
 use Rattle.std.specs.Prelude.{◌==◌, map, slice_index}
 use Rattle.std.proofs.lemmas.Bool.{eq-eqb}
+use Rattle.image_file.specs.Format.{most_vcpus}
 use Rattle.page_words.specs.declared.item.Item.{Item}
 use Rattle.page_words.specs.declared.item.Item.TheVariants.{Exit}
-use Rattle.page_words.specs.Told.{Kept, kept_after, kept_after_all}
-use Rattle.page_words.specs.Stores.{word_after_all}
-use Rattle.page_words.proofs.Keeping.{length-kept_after_all, index-kept_after_all}
+use Rattle.page_words.specs.Told.{Kept, store, kept_after, kept_after_all}
+use Rattle.page_words.proofs.Keeping.{word_after_all, length-kept_after_all, index-kept_after_all}
 use Rattle.ghcb_layout.specs.Address.{ghcb_of}
+use Rattle.ghcb_layout.specs.Bitmap.{word_if, low_bits, high_bits}
 use Rattle.ghcb_layout.specs.declared.field.Field.TheVariants.{Xcr0}
 use Rattle.event_table.specs.declared.access.Access.{Access}
 use Rattle.event_table.specs.declared.access.Access.TheVariants as a
 use Rattle.event_table.specs.declared.event.Event.TheVariants.{One}
 use Rattle.event_table.specs.Lawful.{IsLawfulAccess}
-use Rattle.event_table.specs.Rows.{row_of, kind_of, registers_of, registers, access_of}
+use Rattle.event_table.specs.Rows.{event_row, kind_of, registers_of, registers, access_of}
 use Rattle.device_bus.specs.Devices.{Devices, answer}
-use Rattle.vc_handler.specs.Wire.{wire, store, stored, given, low_bits, high_bits}
-use Rattle.host_events.specs.Calls.{asked, has_infos, has_shown, call_of}
+use Rattle.vc_handler.specs.Wire.{wire, stored_words}
+use Rattle.host_events.specs.Calls.{page_call, call_of}
+use Rattle.host_events.specs.Reading.{has_infos, has_shown}
 use Rattle.host_events.specs.declared.call.Call.{Call}
 use Rattle.host_events.specs.declared.call.Call.TheVariants.{Asked}
 use Rattle.host_events.specs.Served.{Served, reply, served, served_by, entries_by}
 use Rattle.both_ends.specs.BothEnds.{BothEndsAgree, outcome_on, outcome_of, answer_to}
-use Rattle.both_ends.proofs.Back.{bits, asked_at, kind_back, ghcb_read, cut_back, out_back}
+use Rattle.both_ends.proofs.Back.{bits, asked_at, is_event_back, kind_back, ghcb_read, cut_back, out_back}
 use Rattle.both_ends.proofs.Taken.{takes}
 
 -- A page whose words are what an access shows asks for that access.
 asked_shown : (access : Access) (low high : ℕ) (word : ℕ → ℕ) → IsLawfulAccess access
     → word 511 ≡ 0x10000 → word 126 ≡ low → word 127 ≡ high → has_infos (bits low high) ≡ true
-    → word 114 ≡ (row_of (kind_of access)).code → word 115 ≡ (row_of (kind_of access)).info
-    → has_shown (row_of (kind_of access)) (word 63) (bits low high) ≡ true
+    → word 114 ≡ (event_row (kind_of access)).code → word 115 ≡ (event_row (kind_of access)).info
+    → has_shown (event_row (kind_of access)) (word 63) (bits low high) ≡ true
     → access_of (kind_of access) (registers (word 63) (word 97) (word 98)) ≡ access
-    → asked word ≡ Ok access
+    → page_call word ≡ Asked (One access)
 asked_shown access low high word lawful protocol is_low is_high infos code info shown back =
-    asked_at word (kind_of access) low high protocol is_low is_high infos (rw (code, info) (kind_back access lawful)) shown ∙ ap Ok back
+    asked_at word (kind_of access) low high protocol is_low is_high infos (rw code (is_event_back access)) (rw (code, info) (kind_back access lawful)) shown
+    ∙ ap (λ x. Asked (One x)) back
 
 -- the words after these items
 abbrev IsAfter : List Item → (ℕ → ℕ) → (ℕ → ℕ) → Type 0
@@ -40,7 +43,7 @@ IsAfter items old word = (n : ℕ) → n < 512 → word n ≡ word_after_all ite
 
 -- What CPUID shows, where it is told whether XCR0 is shown.
 abbrev cpuid_shown : ℕ → ℕ → Bool → List (ℕ × ℕ)
-cpuid_shown leaf sub xcr = (63, leaf) ∷ (97, sub) ∷ (114, 0x72) ∷ (115, 0) ∷ (116, 0) ∷ given Xcr0 xcr 1
+cpuid_shown leaf sub xcr = (63, leaf) ∷ (97, sub) ∷ (114, 0x72) ∷ (115, 0) ∷ (116, 0) ∷ word_if Xcr0 xcr 1
 
 abbrev cpuid_wire : ℕ → ℕ → ℕ → Bool → List Item
 cpuid_wire i leaf sub xcr =
@@ -49,7 +52,7 @@ cpuid_wire i leaf sub xcr =
 
 -- CPUID, with XCR0 and without it.
 asked_cpuid : (i leaf sub : ℕ) (xcr : Bool) (old word : ℕ → ℕ) → (leaf % 2 ^ 32 == 0xD) ≡ xcr → (leaf < 2 ^ 32) × (sub < 2 ^ 32)
-    → IsAfter (cpuid_wire i leaf sub xcr) old word → asked word ≡ Ok (a.Cpuid leaf sub)
+    → IsAfter (cpuid_wire i leaf sub xcr) old word → page_call word ≡ Asked (One (a.Cpuid leaf sub))
 asked_cpuid i leaf sub true old word is lawful at =
     asked_shown (a.Cpuid leaf sub) (2 ^ 63) 0x201C000200000000 word lawful (at 511 (lit< tt)) (at 126 (lit< tt)) (at 127 (lit< tt)) refl
     (at 114 (lit< tt)) (at 115 (lit< tt)) (rw (at 63 (lit< tt), is) refl)
@@ -60,7 +63,7 @@ asked_cpuid i leaf sub false old word is lawful at =
     (rw (cut_back (word 63) leaf (2 ^ 32) (at 63 (lit< tt)) lawful.0, cut_back (word 97) sub (2 ^ 32) (at 97 (lit< tt)) lawful.1) refl)
 
 -- the words that the wire form leaves
-asked_wire : (i : ℕ) (access : Access) (old word : ℕ → ℕ) → IsLawfulAccess access → IsAfter (wire i (One access)) old word → asked word ≡ Ok access
+asked_wire : (i : ℕ) (access : Access) (old word : ℕ → ℕ) → IsLawfulAccess access → IsAfter (wire i (One access)) old word → page_call word ≡ Asked (One access)
 asked_wire i (a.Out port size value) old word lawful at =
     asked_shown (a.Out port size value) (2 ^ 63) 0x001C000000000000 word lawful (at 511 (lit< tt)) (at 126 (lit< tt)) (at 127 (lit< tt)) refl
     (at 114 (lit< tt)) (at 115 (lit< tt)) refl (ap (λ v. a.Out port size v) (out_back (word 63) value size (at 63 (lit< tt)) lawful.1 lawful.2))
@@ -101,20 +104,20 @@ after : (page : Kept) (items : List Item) → length page.words ≡ 512 → IsAf
 after page items full n within = index-kept_after_all page items n (subst (λ m. n < m) (sym full) within)
 
 -- the hypervisor reads the event that was shown
-called : (i : ℕ) (access : Access) (before : Kept) → i < 8 → IsLawfulAccess access → length before.words ≡ 512
+called : (i : ℕ) (access : Access) (before : Kept) → i < most_vcpus → IsLawfulAccess access → length before.words ≡ 512
     → call_of i (kept_after_all before (wire i (One access))) ≡ Asked (One access)
 called i access before few lawful full =
     let page = kept_after_all before (wire i (One access)) in
     let word = λ (n : ℕ). slice_index page.words n in
-    let msr : page.msr ≡ ghcb_of i = msr_after before (stored (row_of (kind_of access)) (registers_of access)) (ghcb_of i) in
+    let msr : page.msr ≡ ghcb_of i = msr_after before (stored_words (event_row (kind_of access)) (registers_of access)) (ghcb_of i) in
     let own : (ghcb_of i == ghcb_of i) ≡ true = eq-eqb (ghcb_of i) (ghcb_of i) refl in
-    let asks : asked word ≡ Ok access = asked_wire i access (λ n. slice_index before.words n) word lawful (after before (wire i (One access)) full) in
+    let asks : page_call word ≡ Asked (One access) = asked_wire i access (λ n. slice_index before.words n) word lawful (after before (wire i (One access)) full) in
     rw (msr, ghcb_read i few, own, asks) refl
 
 -- the guest takes the reply that was left
 taken : (i : ℕ) (access : Access) (page : Kept) (d : Devices) → length page.words ≡ 512
     → outcome_on (One access) (kept_after_all page (reply (One access) (answer d i access))) ≡ outcome_of (answer d i access)
-taken i access page d full = takes d i access _ (λ n. slice_index page.words n) (after page (reply (One access) (answer d i access)) full)
+taken i access page d full = takes d i access _ (λ n. slice_index page.words n) _ (after page (reply (One access) (answer d i access)) full)
 
 pub ends_agree : BothEndsAgree
 ends_agree i (One access) before d few lawful full =

@@ -1,49 +1,46 @@
 -- What an event shows, read back.
-use Rattle.std.proofs.Common.{◌≡◌, ℕ, ◌*◌, ◌/◌, ◌%◌, ◌^◌, ◌<◌, Bool, true, false, Ok, ◌⊎◌, inl, inr, refl, ap, ◌∙◌, arith}
+use Rattle.std.proofs.Common.{◌≡◌, ℕ, ◌*◌, ◌/◌, ◌%◌, ◌^◌, ◌<◌, Bool, true, false, Ok, Some, ◌⊎◌, inl, inr, refl, ap, ◌∙◌, arith}
 use Rattle.std.proofs.Math.Nat.{mod-eq_of_lt}
+use Rattle.image_file.specs.Format.{most_vcpus}
 use Rattle.event_table.specs.declared.access.Access.{Access}
 use Rattle.event_table.specs.declared.access.Access.TheVariants as a
+use Rattle.event_table.specs.declared.event.Event.TheVariants.{One}
 use Rattle.event_table.specs.declared.row.Kind.{Kind}
 use Rattle.event_table.specs.declared.row.Kind.TheVariants as k
 use Rattle.event_table.specs.Lawful.{IsSize, IsLawfulAccess}
-use Rattle.event_table.specs.Rows.{io_info, io_width, row_of, kind_of, access_of, registers}
-use Rattle.x86_base.specs.Widths.{low}
-use Rattle.exit_info.specs.declared.io_info.IoInfo.{IoInfo}
-use Rattle.exit_info.specs.IoInfo.{word_of, info_of, flag}
-use Rattle.exit_info.specs.IoInfo as io
-use Rattle.exit_info.specs.ExitCode.{event_of}
+use Rattle.event_table.specs.Rows.{io_of, io_width, event_row, kind_of}
+use Rattle.x86_base.specs.Widths.{bits_of, low}
+use Rattle.exit_info.specs.IoInfo.{info_word, info_of}
+use Rattle.exit_info.specs.ExitCode.{exit_code_of}
 use Rattle.exit_info.proofs.Inverse.{info_of-word_of}
 use Rattle.ghcb_layout.specs.declared.bitmap.Bitmap.{Bitmap}
 use Rattle.ghcb_layout.specs.Address.{ghcb_of}
-use Rattle.msr_protocol.specs.Bits.{number_in}
+use Rattle.word_bits.specs.Bits.{bits as bits_at, number_in}
 use Rattle.msr_protocol.specs.MsrWord.{read_of}
 use Rattle.msr_protocol.specs.declared.msr_word.MsrWord.TheVariants.{GhcbAddress}
-use Rattle.host_events.specs.Calls.{io_kind, kind_by, asked, has_infos, has_shown}
+use Rattle.host_events.specs.declared.call.Call.TheVariants.{Asked}
+use Rattle.host_events.specs.Calls.{page_call}
+use Rattle.host_events.specs.Reading.{access_in, is_event, io_kind, kind_by, has_infos, has_shown}
 
-abbrev io_of : ℕ → ℕ → Bool → IoInfo
-io_of port size input = record { port = port; input = input; string = false; rep = false; size = 8 * size; address = 64; segment = 0 }
+-- a size of port I/O as bits, and back
+size_bits : (size : ℕ) → IsSize size → let bits = bits_of (io_width size) in (bits ≡ 8) ⊎ (bits ≡ 16) ⊎ (bits ≡ 32)
+size_bits size (inl one) = rw one (inl refl)
+size_bits size (inr (inl two)) = rw two (inr (inl refl))
+size_bits size (inr (inr four)) = rw four (inr (inr refl))
 
-size_back : (size : ℕ) → 8 * size / 8 ≡ size
-size_back size = omega arith
+size_back : (size : ℕ) → IsSize size → bits_of (io_width size) / 8 ≡ size
+size_back size (inl one) = rw one refl
+size_back size (inr (inl two)) = rw two refl
+size_back size (inr (inr four)) = rw four refl
 
--- the word of port I/O is the word of its info
-io_word : (port size : ℕ) (input : Bool) → io_info port size (flag input) ≡ word_of (io_of port size input)
-io_word port size true = rw (size_back size) (omega arith)
-io_word port size false = rw (size_back size) (omega arith)
-
-io_size : (size : ℕ) → IsSize size → (8 * size ≡ 8) ⊎ (8 * size ≡ 16) ⊎ (8 * size ≡ 32)
-io_size size is = grind arith
-
-io_lawful : (port size : ℕ) (input : Bool) → port < 2 ^ 16 → IsSize size → io.IsLawful (io_of port size input)
-io_lawful port size input fits is = record { size = io_size size is; address = inr (inr refl); segment = omega arith; port = fits }
-
-io_back : (port size : ℕ) (input : Bool) → port < 2 ^ 16 → IsSize size → info_of (io_info port size (flag input)) ≡ Ok (io_of port size input)
-io_back port size input fits is = ap info_of (io_word port size input) ∙ info_of-word_of (io_of port size input) (io_lawful port size input fits is)
+io_back : (port size : ℕ) (input : Bool) → port < 2 ^ 16 → IsSize size → info_of (info_word (io_of port size input)) ≡ Ok (io_of port size input)
+io_back port size input fits is =
+    info_of-word_of (io_of port size input) (record { size = size_bits size is; address = inr (inr refl); segment = omega arith; port = fits })
 
 -- the exit code and SW_EXITINFO1 name the kind again
-pub kind_back : (access : Access) → IsLawfulAccess access → kind_by (event_of (row_of (kind_of access)).code) (row_of (kind_of access)).info ≡ Ok (kind_of access)
-kind_back (a.Out port size value) lawful = ap io_kind (io_back port size false lawful.0 lawful.1) ∙ ap (λ s. Ok (k.Out port s)) (size_back size)
-kind_back (a.In port size) lawful = ap io_kind (io_back port size true lawful.0 lawful.1) ∙ ap (λ s. Ok (k.In port s)) (size_back size)
+pub kind_back : (access : Access) → IsLawfulAccess access → kind_by (exit_code_of (event_row (kind_of access)).code) (event_row (kind_of access)).info ≡ Some (kind_of access)
+kind_back (a.Out port size value) lawful = ap io_kind (io_back port size false lawful.0 lawful.1) ∙ ap (λ s. Some (k.Out port s)) (size_back size lawful.1)
+kind_back (a.In port size) lawful = ap io_kind (io_back port size true lawful.0 lawful.1) ∙ ap (λ s. Some (k.In port s)) (size_back size lawful.1)
 kind_back (a.Cpuid leaf sub) lawful = refl
 kind_back (a.Rdmsr msr) lawful = refl
 kind_back (a.Wrmsr msr low high) lawful = refl
@@ -54,14 +51,14 @@ kind_back a.Wbinvd lawful = refl
 kind_back (a.Vmmcall rax) lawful = refl
 
 -- a word with bits 11:0 clear is an address
-by_low : (word : ℕ) → number_in word 11 0 ≡ 0 → read_of word ≡ Ok (GhcbAddress (number_in word 63 12 * 2 ^ 12))
+by_low : (word : ℕ) → number_in word (bits_at 11 0) ≡ 0 → read_of word ≡ Ok (GhcbAddress (number_in word (bits_at 63 12) * 2 ^ 12))
 by_low word low = rw low refl
 
 -- the address of a page is read as that
-pub ghcb_read : (i : ℕ) → i < 8 → read_of (ghcb_of i) ≡ Ok (GhcbAddress (ghcb_of i))
+pub ghcb_read : (i : ℕ) → i < most_vcpus → read_of (ghcb_of i) ≡ Ok (GhcbAddress (ghcb_of i))
 ghcb_read i few =
-    let low : number_in (ghcb_of i) 11 0 ≡ 0 = omega arith in
-    let page : number_in (ghcb_of i) 63 12 * 2 ^ 12 ≡ ghcb_of i = omega arith in
+    let low : number_in (ghcb_of i) (bits_at 11 0) ≡ 0 = omega arith in
+    let page : number_in (ghcb_of i) (bits_at 63 12) * 2 ^ 12 ≡ ghcb_of i = omega arith in
     by_low (ghcb_of i) low ∙ ap (λ address. Ok (GhcbAddress address)) page
 
 -- a value that fits is cut to itself
@@ -77,9 +74,23 @@ out_back x value size is (inr (inr four)) fits = grind arith
 abbrev pub bits : ℕ → ℕ → Bitmap
 bits low high = record { low = low; high = high }
 
+-- the code of an event is one of the table
+pub is_event_back : (access : Access) → is_event (exit_code_of (event_row (kind_of access)).code) ≡ true
+is_event_back (a.Out port size value) = refl
+is_event_back (a.In port size) = refl
+is_event_back (a.Cpuid leaf sub) = refl
+is_event_back (a.Rdmsr msr) = refl
+is_event_back (a.Wrmsr msr low high) = refl
+is_event_back a.Rdtsc = refl
+is_event_back a.Rdtscp = refl
+is_event_back (a.Rdpmc index) = refl
+is_event_back a.Wbinvd = refl
+is_event_back (a.Vmmcall rax) = refl
+
 -- the page asks for the access that its registers give, where the rules hold
 pub asked_at : (word : ℕ → ℕ) (kind : Kind) (low high : ℕ)
     → word 511 ≡ 0x10000 → word 126 ≡ low → word 127 ≡ high → has_infos (bits low high) ≡ true
-    → kind_by (event_of (word 114)) (word 115) ≡ Ok kind → has_shown (row_of kind) (word 63) (bits low high) ≡ true
-    → asked word ≡ Ok (access_of kind (registers (word 63) (word 97) (word 98)))
-asked_at word kind first second protocol is_low is_high infos named shown = rw (protocol, is_high, infos, named, is_low, is_high, shown) refl
+    → is_event (exit_code_of (word 114)) ≡ true → kind_by (exit_code_of (word 114)) (word 115) ≡ Some kind
+    → has_shown (event_row kind) (word 63) (bits low high) ≡ true
+    → page_call word ≡ Asked (One (access_in word kind))
+asked_at word kind first second protocol is_low is_high infos event named shown = rw (protocol, is_high, infos, event, named, is_low, shown) refl

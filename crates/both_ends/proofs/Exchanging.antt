@@ -2,18 +2,19 @@
 use Rattle.std.proofs.Common.{◌≡◌, ℕ, ◌<◌, List, [], ◌++◌, length, Some, None, refl, sym, ap, ◌∙◌, subst}
 use Rattle.std.specs.Prelude.{Option, option_map, IfSome}
 use Rattle.std.proofs.lemmas.Option.{same_Some}
+use Rattle.image_file.specs.Format.{most_vcpus}
 use Rattle.page_words.specs.Told.{Told, Kept, Makes, keeping, kept_after_all}
-use Rattle.page_words.specs.Programs.{Reads}
+use Rattle.page_words.specs.Dialogue.{Reads}
 use Rattle.page_words.proofs.Making.{kept-after_all}
 use Rattle.page_words.proofs.Reading.{reads_found}
 use Rattle.event_table.specs.declared.event.Event.{Event}
 use Rattle.event_table.specs.declared.outcome.Outcome.{Outcome}
-use Rattle.event_table.specs.Lawful.{IsLawful}
+use Rattle.event_table.specs.Lawful.{IsLawfulEvent}
 use Rattle.device_bus.specs.Devices.{Devices, opening}
 use Rattle.vc_handler.specs.Wire.{wire}
 use Rattle.vc_handler.specs.Accept.{accepting}
-use Rattle.host_events.specs.declared.history.Entry.{Entry}
-use Rattle.host_events.specs.History.{after_event}
+use Rattle.event_table.specs.declared.turn.Entry.{Entry}
+use Rattle.device_bus.specs.History.{after_event}
 use Rattle.host_events.specs.Hosting.{Hosting, after_serve, Leaves}
 use Rattle.host_events.specs.Served.{served}
 use Rattle.both_ends.specs.BothEnds.{Agrees, outcome_on, outcome_of, answer_to}
@@ -43,7 +44,7 @@ shows before page i event makes =
     same_Some _ _ (ap (λ (t : Told). t.kept) makes.leaves ∙ kept-after_all (keeping before) (wire i event) before refl)
 
 pub exchanged : (i : ℕ) (event : Event) (before page left after : Kept) (old new : Hosting) (outcome : Outcome) →
-    i < 8 → IsLawful event → length before.words ≡ 512 →
+    i < most_vcpus → IsLawfulEvent event → length before.words ≡ 512 →
     Makes (keeping before) (wire i event) (keeping page) → new ≡ after_serve i page old → Leaves i page left old →
     Reads (accepting event) outcome (keeping left) (keeping after) → Exchanged i event old new outcome
 exchanged i event before page left after old new outcome few lawful full makes serves leaves reads =

@@ -1,12 +1,13 @@
 -- Both ends of the page agree.
 use Rattle.std.specs.Prelude.{◌≡◌, ℕ, ◌<◌, [], ◌∷◌, length, slice_index}
+use Rattle.image_file.specs.Format.{most_vcpus}
 use Rattle.page_words.specs.Told.{Kept, kept_after_all}
 use Rattle.page_words.specs.Programs.{found}
 use Rattle.event_table.specs.declared.event.Event.{Event}
 use Rattle.event_table.specs.declared.event.Event.TheVariants.{One}
 use Rattle.event_table.specs.declared.outcome.Outcome.{Outcome}
 use Rattle.event_table.specs.declared.outcome.Outcome.TheVariants as outcome
-use Rattle.event_table.specs.Lawful.{IsLawful}
+use Rattle.event_table.specs.Lawful.{IsLawfulEvent}
 use Rattle.device_bus.specs.declared.answer.Answer.{Answer}
 use Rattle.device_bus.specs.declared.answer.Answer.TheVariants.{Done, Raise}
 use Rattle.device_bus.specs.Devices.{Devices, answer}
@@ -15,7 +16,7 @@ use Rattle.vc_handler.specs.Accept.{accepting}
 use Rattle.host_events.specs.Calls.{call_of}
 use Rattle.host_events.specs.declared.call.Call.TheVariants.{Asked}
 use Rattle.host_events.specs.Served.{entries, served}
-use Rattle.host_events.specs.History.{after_event}
+use Rattle.device_bus.specs.History.{after_event}
 
 -- what a guest takes where the devices say this
 abbrev pub outcome_of : Answer → Outcome
@@ -28,7 +29,7 @@ answer_to d i (One access) = answer d i access
 
 -- what a guest takes of a page that stands still
 abbrev pub outcome_on : Event → Kept → Outcome
-outcome_on event page = found (accepting event) (λ word. slice_index page.words word)
+outcome_on event page = found (accepting event) (λ word. slice_index page.words word) page.msr
 
 -- A page of vCPU i is served with one event, and of what is left the guest takes what the devices say.
 pub record Agrees (i : ℕ) (event : Event) (page : Kept) (d : Devices) : Type 0 where
@@ -40,5 +41,5 @@ pub record Agrees (i : ℕ) (event : Event) (page : Kept) (d : Devices) : Type 0
 
 -- It is so for every page on which vCPU i showed an event, whatever its other words hold.
 abbrev pub BothEndsAgree : Type 0
-BothEndsAgree = (i : ℕ) (event : Event) (before : Kept) (d : Devices) → i < 8 → IsLawful event → length before.words ≡ 512 →
-    Agrees i event (kept_after_all before (wire i event)) d
+BothEndsAgree = (i : ℕ) (event : Event) (before : Kept) (d : Devices) →
+    i < most_vcpus → IsLawfulEvent event → length before.words ≡ 512 → Agrees i event (kept_after_all before (wire i event)) d

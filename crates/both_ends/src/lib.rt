@@ -2,8 +2,14 @@
 //! leaves is what the guest takes.
 #![tactic(auto)]
 
+#[cfg(test)]
+mod tests;
+
 ghost use Rattle.std.specs.Prelude.{◌≡◌, ◌<◌, IfOk, OnErr};
-ghost use Rattle.event_table.specs.Lawful.{IsLawful};
+ghost use Rattle.image_file.specs.Format.{most_vcpus};
+ghost use Rattle.page_words.specs.Told.{kept_after_all};
+ghost use Rattle.event_table.specs.Lawful.{IsLawfulEvent};
+ghost use Rattle.vc_handler.specs.Wire.{wire};
 ghost use Rattle.both_ends.specs.BothEnds.{BothEndsAgree};
 ghost use Rattle.both_ends.specs.Exchange.{Exchanged};
 
@@ -13,9 +19,6 @@ use page_words::{Word, Words};
 use std::alloc::AllocError as OutOfMemory;
 use vc_handler::Vc;
 
-#[cfg(test)]
-mod tests;
-
 /// A page on which an event was shown is served with that event, and its reply is taken with what the
 /// devices say.
 pub fn agree()
@@ -23,7 +26,7 @@ pub fn agree()
 {}
 
 /// Shows an event on the page of a vCPU, whatever stands there, has the page served and takes the reply.
-/// Refused, the host is as before, and the event stands on the page.
+/// Out of memory, the host is as before, and the page is as the event was shown on it.
 pub fn exchange<H: Host>(
     vcpu: u16,
     event: &Event,
@@ -31,13 +34,14 @@ pub fn exchange<H: Host>(
     host: &mut H,
 ) -> Result<Outcome, OutOfMemory>
     requires known { vcpu < (H.told host.old).vcpus }
-    requires few { vcpu < 8 }
-    requires lawful { IsLawful event.now }
+    requires few { vcpu < most_vcpus }
+    requires lawful { IsLawfulEvent event.now }
     ensures exchanged { IfOk result (λ outcome. Exchanged vcpu event.now (H.told host.old) (H.told host.new) outcome) }
     ensures err { OnErr result (H.told host.new ≡ H.told host.old) }
+    ensures err_page { OnErr result (page.new ≡ kept_after_all page.old (wire vcpu event.now)) }
 {
     // By its clause a page has 512 words.
-    let _ = page.word(Word::new(0).unwrap());
+    let _ = page.word(Word::LAST);
     let vc = Vc::new(vcpu);
     vc.show(event, page);
     host.serve(vcpu, page)?;

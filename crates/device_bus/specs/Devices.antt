@@ -1,5 +1,8 @@
--- The devices, what they say to an access, and what it changes.
+-- The devices: what they say to an access, and what it changes, in the order of the table in docs/PROTOCOL.md.
+-- They are this project's own where no manual is named.
 use Rattle.std.specs.Prelude.{ℕ, ◌+◌, ◌-◌, ◌*◌, ◌/◌, ◌%◌, ◌^◌, ◌==◌, nat_le, nat_lt, Bool, ◌&&◌, if◌then◌else◌, List, [], ◌∷◌, ◌++◌, length, drop, replicate, slice_index, slice_set}
+use Rattle.std.specs.List.{range_with_len}
+use Rattle.image_file.specs.Format.{most_vcpus}
 use Rattle.event_table.specs.declared.access.Access.{Access}
 use Rattle.event_table.specs.declared.access.Access.TheVariants.{Out, In, Cpuid, Rdmsr, Wrmsr, Rdtsc, Rdtscp, Rdpmc, Wbinvd, Vmmcall}
 use Rattle.event_table.specs.declared.access.Values.{Values}
@@ -19,9 +22,9 @@ pub record Devices : Type 0 where
   -- TSC_AUX of each vCPU
   pub tsc_aux : List ℕ
   -- four words of 64 bits for each vCPU
-  pub words : List ℕ
+  pub scratch : List ℕ
 
--- the devices as they are opened
+-- the devices as they are opened: TSC_AUX is the vCPU's number
 abbrev pub opening : ℕ → List ℕ → Devices
 opening vcpus input = record {
   vcpus = vcpus;
@@ -29,117 +32,110 @@ opening vcpus input = record {
   input = input;
   time = 0;
   mailboxes = replicate 8 0;
-  tsc_aux = 0 ∷ 1 ∷ 2 ∷ 3 ∷ 4 ∷ 5 ∷ 6 ∷ 7 ∷ [];
-  words = replicate 32 0;
+  tsc_aux = range_with_len 0 most_vcpus;
+  scratch = replicate (4 * most_vcpus) 0;
 }
 
--- the values for RAX, RCX, RDX and RBX
-abbrev pub values : ℕ → ℕ → ℕ → ℕ → Values
-values a c d b = record { a = a; c = c; d = d; b = b }
-
-abbrev pub no_values : Values
-no_values = values 0 0 0 0
+-- Answers.
 
 -- done, without a result
-abbrev pub nothing : Answer
-nothing = Done no_values
+abbrev pub no_result : Answer
+no_result = Done (record { a = 0; b = 0; c = 0; d = 0 })
 
 -- one result, in RAX
-abbrev pub one : ℕ → Answer
-one a = Done (values a 0 0 0)
+abbrev pub in_rax : ℕ → Answer
+in_rax word = Done (record { a = word; b = 0; c = 0; d = 0 })
+
+-- a word in EDX:EAX, with a number in ECX
+abbrev pub in_edx_eax : ℕ → ℕ → Answer
+in_edx_eax word c = Done (record { a = word % 2 ^ 32; b = 0; c = c; d = word / 2 ^ 32 })
 
 -- a general protection exception with the error code 0 (APM volume 2, section 8.2.14)
-abbrev pub refused : Answer
-refused = Raise 13 0
+abbrev pub raise_gp : Answer
+raise_gp = Raise 13 0
 
--- the low half of a word in RAX and the high half in RDX, with a third number in RCX
-abbrev pub halves : ℕ → ℕ → Values
-halves word c = values (word % 2 ^ 32) c (word / 2 ^ 32) 0
-
--- the time-stamp counter
-abbrev pub clock : ℕ → ℕ
-clock time = 1000 * time % 2 ^ 64
-
--- the ports 0x500, 0x504 and so on to 0x51C, at a size of 4 bytes
-abbrev pub is_mailbox : ℕ → ℕ → Bool
-is_mailbox port size = nat_le 0x500 port && nat_lt port 0x520 && (port % 4 == 0) && (size == 4)
-
-abbrev pub mailbox : ℕ → ℕ
-mailbox port = (port - 0x500) / 4
-
--- the console's data port, and its status port
+-- Ports: the console's data port and its status port, and the mailboxes at 0x500, 0x504 and so on to 0x51C.
 abbrev pub is_data : ℕ → ℕ → Bool
 is_data port size = (port == 0x3F8) && (size == 1)
 
 abbrev pub is_status : ℕ → ℕ → Bool
 is_status port size = (port == 0x3FD) && (size == 1)
 
--- The transmitter is empty in any case; bit 0 says that a byte has come.
-abbrev pub status : List ℕ → ℕ
-status input = if length input == 0 then 0x60 else 0x61
+abbrev pub is_mailbox : ℕ → ℕ → Bool
+is_mailbox port size = nat_le 0x500 port && nat_lt port 0x520 && (port % 4 == 0) && (size == 4)
+
+abbrev pub mailbox : ℕ → ℕ
+mailbox port = (port - 0x500) / 4
 
 -- the next byte of the input, or 0 where none is left
 abbrev pub next_byte : List ℕ → ℕ
 next_byte [] = 0
 next_byte (byte ∷ rest) = byte
 
--- Where there is no device, all ones are read.
-abbrev pub read_port : Devices → ℕ → ℕ → ℕ
-read_port d port size =
-    if is_data port size then next_byte d.input else
-    if is_status port size then status d.input else
-    if is_mailbox port size then slice_index d.mailboxes (mailbox port) else
-    2 ^ (8 * size) - 1
+abbrev pub without_next_byte : Devices → Devices
+without_next_byte d = record d { input = drop 1 d.input }
 
--- what IN changes
-abbrev pub taken : Devices → ℕ → ℕ → Devices
-taken d port size = if is_data port size then record d { input = drop 1 d.input } else d
+-- The transmitter is empty in any case; bit 0 says that a byte has come.
+abbrev pub console_status : List ℕ → ℕ
+console_status input = if length input == 0 then 0x60 else 0x61
 
--- what OUT changes
-abbrev pub write_port : Devices → ℕ → ℕ → ℕ → Devices
-write_port d port size value =
-    if is_data port size then record d { console = d.console ++ value ∷ [] } else
-    if is_mailbox port size then record d { mailboxes = slice_set d.mailboxes (mailbox port) value } else
-    d
+-- OUT: where there is no device the value is lost
+abbrev pub out_reply : Devices → ℕ → ℕ → ℕ → Answer × Devices
+out_reply d port size value = (
+  no_result,
+  if is_data port size then record d { console = d.console ++ value ∷ [] } else
+      if is_mailbox port size then record d { mailboxes = slice_set d.mailboxes (mailbox port) value } else
+      d,
+)
 
--- the MSRs of a vCPU's four words
-abbrev pub is_word : ℕ → Bool
-is_word msr = nat_le 0x40001000 msr && nat_lt msr 0x40001004
+-- IN: where there is no device all ones are read
+abbrev pub in_reply : Devices → ℕ → ℕ → Answer × Devices
+in_reply d port size =
+    if is_data port size then (in_rax (next_byte d.input), without_next_byte d) else
+    if is_status port size then (in_rax (console_status d.input), d) else
+    if is_mailbox port size then (in_rax (slice_index d.mailboxes (mailbox port)), d) else
+    (in_rax (2 ^ (8 * size) - 1), d)
 
--- the place of vCPU i's word among all words
-abbrev pub word : ℕ → ℕ → ℕ
-word i msr = 4 * i + (msr - 0x40001000)
+-- the time-stamp counter
+abbrev pub clock : ℕ → ℕ
+clock time = 1000 * time % 2 ^ 64
 
--- what RDMSR says: MSR 0x10 is the time-stamp counter, 0xC0000103 is TSC_AUX (APM volume 2, appendix A)
-abbrev pub read_msr : Devices → ℕ → ℕ → Answer
-read_msr d i msr =
-    if msr == 0x10 then Done (halves (clock d.time) 0) else
-    if msr == 0xC0000103 then one (slice_index d.tsc_aux i) else
-    if is_word msr then Done (halves (slice_index d.words (word i msr)) 0) else
-    refused
+-- MSRs: those of a vCPU's four words, and the place of one among the words of all vCPUs
+abbrev pub is_scratch_msr : ℕ → Bool
+is_scratch_msr msr = nat_le 0x40001000 msr && nat_lt msr 0x40001004
 
--- what WRMSR says
-abbrev pub written : ℕ → ℕ → Answer
-written msr high =
-    if msr == 0xC0000103 then (if high == 0 then nothing else refused) else
-    if is_word msr then nothing else
-    refused
+abbrev pub scratch_place : ℕ → ℕ → ℕ
+scratch_place i msr = 4 * i + (msr - 0x40001000)
 
--- what WRMSR changes
-abbrev pub write_msr : Devices → ℕ → ℕ → ℕ → ℕ → Devices
-write_msr d i msr low high =
-    if msr == 0xC0000103 then (if high == 0 then record d { tsc_aux = slice_set d.tsc_aux i low } else d) else
-    if is_word msr then record d { words = slice_set d.words (word i msr) (high * 2 ^ 32 + low) } else
-    d
+-- RDMSR: 0x10 is the time-stamp counter, and 0xC0000103 is TSC_AUX (APM volume 2, appendix A)
+abbrev pub rdmsr_answer : Devices → ℕ → ℕ → Answer
+rdmsr_answer d i msr =
+    if msr == 0x10 then in_edx_eax (clock d.time) 0 else
+    if msr == 0xC0000103 then in_rax (slice_index d.tsc_aux i) else
+    if is_scratch_msr msr then in_edx_eax (slice_index d.scratch (scratch_place i msr)) 0 else
+    raise_gp
 
--- what CPUID says to vCPU i (APM volume 3, appendix E): the largest leaf and the vendor "AuthenticAMD"; the vCPU's
--- number as its initial APIC ID, and that there is a time-stamp counter; that XSAVE keeps x87 alone, in 576 bytes
+-- WRMSR: TSC_AUX has 32 bits
+abbrev pub wrmsr_reply : Devices → ℕ → ℕ → ℕ → ℕ → Answer × Devices
+wrmsr_reply d i msr low high =
+    if (msr == 0xC0000103) && (high == 0) then (no_result, record d { tsc_aux = slice_set d.tsc_aux i low }) else
+    if is_scratch_msr msr then
+    (no_result, record d { scratch = slice_set d.scratch (scratch_place i msr) (high * 2 ^ 32 + low) }) else
+    (raise_gp, d)
+
+-- RDPMC: counter 0 counts accesses, and there is no other
+abbrev pub rdpmc_answer : Devices → ℕ → Answer
+rdpmc_answer d index = if index == 0 then in_edx_eax d.time 0 else raise_gp
+
+-- CPUID of vCPU i (APM volume 3, appendix E): the largest leaf and the vendor "AuthenticAMD", four letters a register;
+-- the vCPU's number as its initial APIC ID, and that there is a time-stamp counter; that XSAVE keeps x87 alone, in
+-- 576 bytes
 abbrev pub cpuid : ℕ → ℕ → ℕ → Values
 cpuid i leaf sub =
-    if leaf == 0 then values 0xD 0x444D4163 0x69746E65 0x68747541 else
-    if leaf == 1 then values 0 0 0x10 (i * 2 ^ 24) else
-    if (leaf == 0xD) && (sub == 0) then values 1 576 0 576 else
-    no_values
+    if leaf == 0 then record { a = 0xD; b = 0x68747541; d = 0x69746E65; c = 0x444D4163 } else
+    if leaf == 1 then record { a = 0; b = i * 2 ^ 24; d = 0x10; c = 0 } else
+    if (leaf == 0xD) && (sub == 0) then record { a = 1; b = 576; d = 0; c = 576 } else
+    record { a = 0; b = 0; d = 0; c = 0 }
 
 -- EAX, EBX, ECX or EDX, by its number
 abbrev pub register_of : Values → ℕ → ℕ
@@ -149,37 +145,32 @@ register_of values register =
     if register == 2 then values.c else
     values.d
 
--- what a counter says: counter 0 counts accesses, and there is no other
-abbrev pub counter : ℕ → ℕ → Answer
-counter time index = if index == 0 then Done (halves time 0) else refused
+-- VMMCALL: 0 asks for the number of vCPUs, 1 for the caller's own number
+abbrev pub hypercall : Devices → ℕ → ℕ → ℕ
+hypercall d i rax =
+    if rax == 0 then d.vcpus else
+    if rax == 1 then i else
+    2 ^ 64 - 1
 
--- what a call of the hypervisor says: 0 asks for the number of vCPUs, 1 for the caller's own number
-abbrev pub called : Devices → ℕ → ℕ → ℕ
-called d i rax = if rax == 0 then d.vcpus else if rax == 1 then i else 2 ^ 64 - 1
+-- the answer to an access of vCPU i, and the devices as it leaves them but for the clock
+abbrev pub device_reply : Devices → ℕ → Access → Answer × Devices
+device_reply d i (Out port size value) = out_reply d port size value
+device_reply d i (In port size) = in_reply d port size
+device_reply d i Rdtsc = (in_edx_eax (clock d.time) 0, d)
+device_reply d i Rdtscp = (in_edx_eax (clock d.time) (slice_index d.tsc_aux i), d)
+device_reply d i (Rdmsr msr) = (rdmsr_answer d i msr, d)
+device_reply d i (Wrmsr msr low high) = wrmsr_reply d i msr low high
+device_reply d i (Rdpmc index) = (rdpmc_answer d index, d)
+device_reply d i (Cpuid leaf sub) = (Done (cpuid i leaf sub), d)
+device_reply d i (Vmmcall rax) = (in_rax (hypercall d i rax), d)
+device_reply d i Wbinvd = (no_result, d)
 
--- what the devices say to vCPU i
 abbrev pub answer : Devices → ℕ → Access → Answer
-answer d i (Out port size value) = nothing
-answer d i (In port size) = one (read_port d port size)
-answer d i (Cpuid leaf sub) = Done (cpuid i leaf sub)
-answer d i (Rdmsr msr) = read_msr d i msr
-answer d i (Wrmsr msr low high) = written msr high
-answer d i Rdtsc = Done (halves (clock d.time) 0)
-answer d i Rdtscp = Done (halves (clock d.time) (slice_index d.tsc_aux i))
-answer d i (Rdpmc index) = counter d.time index
-answer d i Wbinvd = nothing
-answer d i (Vmmcall rax) = one (called d i rax)
-
--- what an access of vCPU i changes beside the clock
-abbrev pub changed : Devices → ℕ → Access → Devices
-changed d i (Out port size value) = write_port d port size value
-changed d i (In port size) = taken d port size
-changed d i (Wrmsr msr low high) = write_msr d i msr low high
-changed d i _ = d
+answer d i access = (device_reply d i access).0
 
 -- Every access counts, also one that raises.
 abbrev pub after_access : Devices → ℕ → Access → Devices
-after_access d i access = record (changed d i access) { time = (d.time + 1) % 2 ^ 64 }
+after_access d i access = record (device_reply d i access).1 { time = (d.time + 1) % 2 ^ 64 }
 
 -- the devices, and how many accesses more there is room for
 pub record Bussed : Type 0 where

@@ -1,30 +1,24 @@
 // The devices.
-ghost use Rattle.std.specs.Prelude.{◌≡◌, ◌≤◌, ◌<◌, ◌*◌, ◌-◌, ◌^◌, [], drop, OnOk, OnErr};
-ghost use Rattle.device_bus.specs.Devices.{after_access, answer as answer_of, called, changed, is_data as is_data_of, is_mailbox as is_mailbox_of, is_status as is_status_of, is_word as is_word_of, mailbox as mailbox_of, next_byte, opening, read_msr as msr_of, read_port as port_of, taken, word as word_of, write_msr as msr_written, write_port as port_written, written};
+ghost use Rattle.std.specs.Prelude.{◌≡◌, ◌≤◌, ◌<◌, ◌*◌, ◌^◌, [], OnOk, OnErr};
+ghost use Rattle.std.specs.List.{range_with_len};
+ghost use Rattle.image_file.specs.Format.{most_vcpus};
 ghost use Rattle.event_table.specs.Lawful.{IsLawfulAccess, IsSize};
+ghost use Rattle.device_bus.specs.Devices.{after_access, answer as answer_of, hypercall as hypercall_of, in_reply, next_byte, opening, out_reply, rdmsr_answer, rdpmc_answer, device_reply as reply_of, console_status as status_of, without_next_byte, wrmsr_reply};
 
-use crate::answer::{Answer, clock, counter, cpuid, halves, nothing, one, refuse};
+use crate::answer::{Answer, in_edx_eax, in_rax, no_result, raise_gp};
+use crate::cpuid::cpuid;
+use crate::msr::{TSC, TSC_AUX, clock, is_scratch_msr, scratch_place};
+use crate::port::{all_ones, is_data, is_mailbox, is_status, mailbox};
 use event_table::Access;
+use image_file::MOST_VCPUS;
 use std::alloc::{AllocError as OutOfMemory, Global};
 use std::marker::Model;
 
-/// The console's data port: a byte written there is put out, and one read there is the next of the input.
-const DATA: u16 = 0x3F8;
+/// The most vCPUs that the devices can have.
+const VCPUS: usize = MOST_VCPUS as usize;
 
-/// The console's status port. Bits 5 and 6 say that a byte may be put out, bit 0 that one has come.
-const STATUS: u16 = 0x3FD;
-
-/// The port of the first mailbox; each has four ports.
-const MAILBOXES: u16 = 0x500;
-
-/// The MSR of the time-stamp counter (APM volume 2, appendix A).
-const TSC: u32 = 0x10;
-
-/// The MSR TSC_AUX, which RDTSCP reads (APM volume 2, appendix A).
-const TSC_AUX: u32 = 0xC000_0103;
-
-/// The MSR of the first of a vCPU's four words.
-const WORDS: u32 = 0x4000_1000;
+/// The four words of each vCPU.
+const SCRATCH: usize = 4 * VCPUS;
 
 /// A console with an input, a clock that counts accesses, eight mailboxes that all vCPUs share, and for
 /// each vCPU TSC_AUX and four words.
@@ -36,13 +30,14 @@ pub struct Bus {
     taken: usize,
     time: u64,
     mailboxes: [u32; 8],
-    tsc_aux: [u32; 8],
-    words: [u64; 32],
+    tsc_aux: [u32; VCPUS],
+    scratch: [u64; SCRATCH],
     spare: usize,
 }
 
 impl Model for Bus {
     ghost use Rattle.std.specs.Prelude.{◌+◌, ◌≤◌, drop, vec_len, vec_capacity};
+    ghost use Rattle.image_file.specs.Format.{most_vcpus};
     ghost use Rattle.device_bus.specs.Devices.{Bussed};
 
     ghost Value = { Bussed };
@@ -55,65 +50,24 @@ impl Model for Bus {
         time = b.time;
         mailboxes = b.mailboxes;
         tsc_aux = b.tsc_aux;
-        words = b.words;
+        scratch = b.scratch;
       };
       spare = b.spare;
     } };
 
-    ghost invariant = { λ b. (b.vcpus ≤ 8) × (b.taken ≤ vec_len b.input) × (b.spare + vec_len b.console ≤ vec_capacity b.console) };
+    ghost invariant = { λ b. (b.vcpus ≤ most_vcpus) × (b.taken ≤ vec_len b.input) ×
+        (b.spare + vec_len b.console ≤ vec_capacity b.console) };
 }
 
-fn is_data(port: u16, size: u8) -> bool
-    ensures value { result ≡ is_data_of port size }
+/// TSC_AUX of each vCPU as it opens: the vCPU's number.
+fn numbers() -> [u32; VCPUS]
+    ensures value { result ≡ range_with_len 0 most_vcpus }
 {
-    port == DATA && size == 1
-}
-
-fn is_status(port: u16, size: u8) -> bool
-    ensures value { result ≡ is_status_of port size }
-{
-    port == STATUS && size == 1
-}
-
-fn is_mailbox(port: u16, size: u8) -> bool
-    ensures value { result ≡ is_mailbox_of port size }
-{
-    MAILBOXES <= port && port < MAILBOXES + 32 && port % 4 == 0 && size == 4
-}
-
-// The number of a mailbox.
-fn mailbox(port: u16) -> usize
-    requires from { 0x500 ≤ port }
-    ensures value { result ≡ mailbox_of port }
-{
-    usize::from((port - MAILBOXES) / 4)
-}
-
-fn is_word(msr: u32) -> bool
-    ensures value { result ≡ is_word_of msr }
-{
-    WORDS <= msr && msr < WORDS + 4
-}
-
-// The place of a vCPU's word among all words.
-fn word(vcpu: u16, msr: u32) -> usize
-    requires few { vcpu < 8 }
-    requires from { 0x40001000 ≤ msr }
-    ensures value { result ≡ word_of vcpu msr }
-{
-    4 * usize::from(vcpu) + (msr - WORDS) as usize
-}
-
-// A number of so many bytes, all ones: what is read where there is no device.
-fn all_ones(size: u8) -> u64
-    requires size { IsSize size }
-    ensures value { result ≡ 2 ^ (8 * size) - 1 }
-{
-    match size {
-        1 => 0xFF,
-        2 => 0xFFFF,
-        _ => 0xFFFF_FFFF,
+    let mut numbers = [0; VCPUS];
+    for (vcpu, number) in numbers.iter_mut().enumerate() {
+        *number = vcpu as u32;
     }
+    numbers
 }
 
 impl Bus {
@@ -130,8 +84,8 @@ impl Bus {
             taken: 0,
             time: 0,
             mailboxes: [0; 8],
-            tsc_aux: [0, 1, 2, 3, 4, 5, 6, 7],
-            words: [0; 32],
+            tsc_aux: numbers(),
+            scratch: [0; SCRATCH],
             spare: 0,
         }
     }
@@ -139,7 +93,7 @@ impl Bus {
     /// Opens the devices for so many vCPUs over this input. Refused, all is as before, and the input is dropped.
     pub fn start(&mut self, count: u16, input: Vec<u8>) -> Result<(), OutOfMemory>
         requires some { 1 ≤ count }
-        requires few { count ≤ 8 }
+        requires few { count ≤ most_vcpus }
         ensures ok { OnOk result (self.new ≡ record { devices = opening count input.items; spare = 0 }) }
         ensures err { OnErr result (self.new ≡ self.old) }
     {
@@ -150,8 +104,8 @@ impl Bus {
         self.input = input;
         self.time = 0;
         self.mailboxes = [0; 8];
-        self.tsc_aux = [0, 1, 2, 3, 4, 5, 6, 7];
-        self.words = [0; 32];
+        self.tsc_aux = numbers();
+        self.scratch = [0; SCRATCH];
         Ok(())
     }
 
@@ -168,10 +122,10 @@ impl Bus {
         Ok(())
     }
 
-    // Takes the next byte of the input; 0 where none is left.
+    /// Takes the next byte of the input; 0 where none is left.
     fn take(&mut self) -> u64
         ensures value { result ≡ next_byte self.old.devices.input }
-        ensures after { self.new ≡ record { devices = record self.old.devices { input = drop 1 self.old.devices.input }; spare = self.old.spare } }
+        ensures after { self.new ≡ record self.old { devices = without_next_byte self.old.devices } }
     {
         if self.taken < self.input.len() {
             let byte = self.input[self.taken];
@@ -182,112 +136,129 @@ impl Bus {
         }
     }
 
-    // What IN reads. Where there is no device it is all ones.
-    fn read_port(&mut self, port: u16, size: u8) -> u64
-        requires size { IsSize size }
-        ensures value { result ≡ port_of self.old.devices port size }
-        ensures after { self.new ≡ record { devices = taken self.old.devices port size; spare = self.old.spare } }
+    /// The console's status.
+    fn status(&self) -> u64
+        ensures value { result ≡ status_of self.now.devices.input }
     {
-        if is_data(port, size) {
-            self.take()
-        } else if is_status(port, size) {
-            if self.taken == self.input.len() {
-                0x60
-            } else {
-                0x61
-            }
-        } else if is_mailbox(port, size) {
-            u64::from(self.mailboxes[mailbox(port)])
+        if self.taken == self.input.len() {
+            0x60
         } else {
-            all_ones(size)
+            0x61
         }
     }
 
-    // What OUT writes. Where there is no device it is lost.
-    fn write_port(&mut self, port: u16, size: u8, value: u32)
+    /// Where there is no device, the value is lost.
+    fn out(&mut self, port: u16, size: u8, value: u32) -> Answer
         requires fits { value < 2 ^ (8 * size) }
         requires room { 1 ≤ self.old.spare }
-        ensures devices { self.new.devices ≡ port_written self.old.devices port size value }
+        ensures answer { result ≡ (out_reply self.old.devices port size value).0 }
+        ensures devices { self.new.devices ≡ (out_reply self.old.devices port size value).1 }
         ensures room { self.old.spare ≤ self.new.spare + 1 }
     {
         if is_data(port, size) {
-            let _ = self.console.push(value as u8);
+            self.console.push_reserved(value as u8);
             self.spare -= 1;
         } else if is_mailbox(port, size) {
             self.mailboxes[mailbox(port)] = value;
         }
+        no_result()
     }
 
-    fn read_msr(&self, vcpu: u16, msr: u32) -> Answer
-        requires few { vcpu < 8 }
-        ensures value { result ≡ msr_of self.now.devices vcpu msr }
+    /// Where there is no device, all ones are read.
+    fn input(&mut self, port: u16, size: u8) -> Answer
+        requires size { IsSize size }
+        ensures answer { result ≡ (in_reply self.old.devices port size).0 }
+        ensures after { self.new ≡ record self.old { devices = (in_reply self.old.devices port size).1 } }
+    {
+        in_rax(if is_data(port, size) {
+            self.take()
+        } else if is_status(port, size) {
+            self.status()
+        } else if is_mailbox(port, size) {
+            u64::from(self.mailboxes[mailbox(port)])
+        } else {
+            all_ones(size)
+        })
+    }
+
+    /// RDMSR.
+    fn rdmsr(&self, vcpu: u16, msr: u32) -> Answer
+        requires few { vcpu < most_vcpus }
+        ensures answer { result ≡ rdmsr_answer self.now.devices vcpu msr }
     {
         if msr == TSC {
-            Answer::Done(halves(clock(self.time), 0))
+            in_edx_eax(clock(self.time), 0)
         } else if msr == TSC_AUX {
-            one(u64::from(self.tsc_aux[usize::from(vcpu)]))
-        } else if is_word(msr) {
-            Answer::Done(halves(self.words[word(vcpu, msr)], 0))
+            in_rax(u64::from(self.tsc_aux[usize::from(vcpu)]))
+        } else if is_scratch_msr(msr) {
+            in_edx_eax(self.scratch[scratch_place(vcpu, msr)], 0)
         } else {
-            refuse()
+            raise_gp()
         }
     }
 
-    fn write_msr(&mut self, vcpu: u16, msr: u32, low: u32, high: u32) -> Answer
-        requires few { vcpu < 8 }
-        ensures value { result ≡ written msr high }
-        ensures after { self.new ≡ record { devices = msr_written self.old.devices vcpu msr low high; spare = self.old.spare } }
+    /// WRMSR.
+    fn wrmsr(&mut self, vcpu: u16, msr: u32, low: u32, high: u32) -> Answer
+        requires few { vcpu < most_vcpus }
+        ensures answer { result ≡ (wrmsr_reply self.old.devices vcpu msr low high).0 }
+        ensures after { self.new ≡ record self.old { devices = (wrmsr_reply self.old.devices vcpu msr low high).1 } }
     {
         if msr == TSC_AUX && high == 0 {
             self.tsc_aux[usize::from(vcpu)] = low;
-            nothing()
-        } else if is_word(msr) {
-            self.words[word(vcpu, msr)] = u64::from(high) * 0x1_0000_0000 + u64::from(low);
-            nothing()
+            no_result()
+        } else if is_scratch_msr(msr) {
+            self.scratch[scratch_place(vcpu, msr)] = u64::from(high) << 32 | u64::from(low);
+            no_result()
         } else {
-            refuse()
+            raise_gp()
         }
     }
 
-    // What VMMCALL reads: 0 asks for the number of vCPUs, 1 for the caller's own number.
-    fn call(&self, vcpu: u16, rax: u64) -> u64
-        ensures value { result ≡ called self.now.devices vcpu rax }
+    /// RDPMC: counter 0 counts accesses, and there is no other.
+    fn rdpmc(&self, index: u32) -> Answer
+        ensures answer { result ≡ rdpmc_answer self.now.devices index }
     {
-        if rax == 0 {
-            u64::from(self.vcpus)
-        } else if rax == 1 {
-            u64::from(vcpu)
+        if index == 0 {
+            in_edx_eax(self.time, 0)
         } else {
-            u64::MAX
+            raise_gp()
         }
     }
 
-    // One access, but the clock stands.
+    /// What VMMCALL reads: 0 asks for the number of vCPUs, 1 for the caller's own number.
+    fn hypercall(&self, vcpu: u16, rax: u64) -> u64
+        ensures value { result ≡ hypercall_of self.now.devices vcpu rax }
+    {
+        match rax {
+            0 => u64::from(self.vcpus),
+            1 => u64::from(vcpu),
+            _ => u64::MAX,
+        }
+    }
+
+    /// One access, but the clock stands.
     fn reply(&mut self, vcpu: u16, access: &Access) -> Answer
-        requires few { vcpu < 8 }
+        requires few { vcpu < most_vcpus }
         requires lawful { IsLawfulAccess access.now }
         requires room { 1 ≤ self.old.spare }
-        ensures answer { result ≡ answer_of self.old.devices vcpu access.now }
-        ensures devices { self.new.devices ≡ changed self.old.devices vcpu access.now }
+        ensures answer { result ≡ (reply_of self.old.devices vcpu access.now).0 }
+        ensures devices { self.new.devices ≡ (reply_of self.old.devices vcpu access.now).1 }
         ensures room { self.old.spare ≤ self.new.spare + 1 }
     {
         match *access {
-            Access::Out { port, size, value } => {
-                self.write_port(port, size, value);
-                nothing()
-            }
-            Access::In { port, size } => one(self.read_port(port, size)),
-            Access::Cpuid { leaf, sub } => Answer::Done(cpuid(vcpu, leaf, sub)),
-            Access::Rdmsr { msr } => self.read_msr(vcpu, msr),
-            Access::Wrmsr { msr, low, high } => self.write_msr(vcpu, msr, low, high),
-            Access::Rdtsc => Answer::Done(halves(clock(self.time), 0)),
-            Access::Rdtscp => Answer::Done(halves(
+            Access::Out { port, size, value } => self.out(port, size, value),
+            Access::In { port, size } => self.input(port, size),
+            Access::Rdtsc => in_edx_eax(clock(self.time), 0),
+            Access::Rdtscp => in_edx_eax(
                 clock(self.time),
                 u64::from(self.tsc_aux[usize::from(vcpu)]),
-            )),
-            Access::Rdpmc { index } => counter(self.time, index),
-            Access::Wbinvd => nothing(),
-            Access::Vmmcall { rax } => one(self.call(vcpu, rax)),
+            ),
+            Access::Rdmsr { msr } => self.rdmsr(vcpu, msr),
+            Access::Wrmsr { msr, low, high } => self.wrmsr(vcpu, msr, low, high),
+            Access::Rdpmc { index } => self.rdpmc(index),
+            Access::Cpuid { leaf, sub } => Answer::Done(cpuid(vcpu, leaf, sub)),
+            Access::Vmmcall { rax } => in_rax(self.hypercall(vcpu, rax)),
+            Access::Wbinvd => no_result(),
         }
     }
 
@@ -301,7 +272,7 @@ impl Bus {
         ensures vcpus { self.new.devices.vcpus ≡ self.old.devices.vcpus }
         ensures room { self.old.spare ≤ self.new.spare + 1 }
     {
-        // By the invariant there are at most eight vCPUs.
+        // By the invariant there are few vCPUs.
         let _ = &self.vcpus;
         let answer = self.reply(vcpu, access);
         self.time = self.time.wrapping_add(1);

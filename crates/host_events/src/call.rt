@@ -1,6 +1,6 @@
 // What a page asks for.
 ghost use Rattle.std.specs.Prelude.{◌≡◌};
-ghost use Rattle.host_events.specs.Calls.{code_of};
+ghost use Rattle.host_events.specs.Calls.{bad_page_code};
 
 use event_table::Event;
 
@@ -20,7 +20,7 @@ pub enum BadPage {
 impl BadPage {
     /// The number that stands for it.
     pub fn code(&self) -> u8
-        ensures value { result ≡ code_of self.now }
+        ensures value { result ≡ bad_page_code self.now }
     {
         match self {
             BadPage::Usage => 2,

@@ -1,7 +1,8 @@
 // The host as the runners see it.
-ghost use Rattle.std.specs.Prelude.{◌≡◌, ◌<◌, ◌≤◌, IfSome, OnOk, OnErr, map, length, slice_get};
+ghost use Rattle.std.specs.Prelude.{◌≡◌, ◌^◌, ◌<◌, ◌≤◌, IfSome, OnOk, OnErr, map, length, slice_get};
+ghost use Rattle.image_file.specs.Format.{most_vcpus};
 ghost use Rattle.host_events.specs.Hosting.{Hosting, started, after_serve, Leaves};
-ghost use Rattle.host_events.specs.History.{turn_of};
+ghost use Rattle.event_table.specs.Turns.{turn_of};
 
 use event_table::Turn;
 use page_words::Words;
@@ -19,7 +20,7 @@ pub trait Host: Drop {
     /// Refused, all is as before, and the input is dropped.
     fn start(&mut self, count: u16, input: Vec<u8>) -> Result<(), OutOfMemory>
         requires some { 1 ≤ count }
-        requires few { count ≤ 8 }
+        requires few { count ≤ most_vcpus }
         ensures ok { OnOk result (told self.new ≡ started count input.items (told self.old)) }
         ensures err { OnErr result (told self.new ≡ told self.old) };
 
@@ -35,9 +36,10 @@ pub trait Host: Drop {
     fn console(&self) -> &[u8]
         ensures bytes { IfSome (told self.now).devices (λ devices. result.now ≡ devices.console) };
 
-    /// How many events were served.
+    /// How many events were served: fewer than 2^63.
     fn turns(&self) -> u64
-        ensures count { IfSome (told self.now).history (λ entries. result ≡ length entries) };
+        ensures count { IfSome (told self.now).history (λ entries. result ≡ length entries) }
+        ensures few { IfSome (told self.now).history (λ entries. length entries < 2 ^ 63) };
 
     /// The vCPU and the count of an event that was served; none exactly where the index isn't below `turns`.
     fn turn_at(&self, index: u64) -> Option<Turn>

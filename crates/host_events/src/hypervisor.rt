@@ -22,13 +22,14 @@ pub struct Hypervisor {
 
 impl Model for Hypervisor {
     ghost use Rattle.std.specs.Prelude.{◌≡◌, ◌≤◌};
+    ghost use Rattle.image_file.specs.Format.{most_vcpus};
     ghost use Rattle.host_events.specs.Hypervised.{Hypervised};
 
     ghost Value = { Hypervised };
 
     ghost view = { λ h. record { vcpus = h.vcpus; devices = h.bus.devices; history = h.history.items } };
 
-    ghost invariant = { λ h. (h.vcpus ≤ 8) × (h.bus.devices.vcpus ≡ h.vcpus) };
+    ghost invariant = { λ h. (h.vcpus ≤ most_vcpus) × (h.bus.devices.vcpus ≡ h.vcpus) };
 }
 
 impl Hypervisor {
@@ -69,7 +70,7 @@ impl Host for Hypervisor {
                 let Event::One(access) = event;
                 let answer = self.bus.access(vcpu, &access);
                 store_reply(&event, &answer, page);
-                let _ = self.history.push(Entry { vcpu, event });
+                self.history.push_reserved(Entry { vcpu, event });
             }
         }
         Ok(())

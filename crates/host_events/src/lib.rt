@@ -2,7 +2,6 @@
 #![tactic(auto)]
 
 mod call;
-mod history;
 mod host;
 mod hypervisor;
 mod reading;
@@ -12,7 +11,7 @@ mod tests;
 
 pub use call::{BadPage, Call};
 pub use device_bus::cpuid_register;
-pub use history::Entry;
+pub use event_table::Entry;
 pub use host::Host;
 pub use hypervisor::Hypervisor;
 pub use reading::read_call;

@@ -1,19 +1,16 @@
 // What is written on a page.
-ghost use Rattle.std.specs.Prelude.{◌≡◌, ◌<◌};
-ghost use Rattle.page_words.specs.Told.{kept_after, kept_after_all};
-ghost use Rattle.page_words.specs.declared.item.Item.TheVariants.{Store};
+ghost use Rattle.std.specs.Prelude.{◌≡◌, ◌<◌, ◌+◌, true, map};
+ghost use Rattle.page_words.specs.Told.{kept_after_all, store};
+ghost use Rattle.ghcb_layout.specs.Bitmap.{bit_if as bit_of_field, bitmap_of as bits_of_words, word_if};
 ghost use Rattle.host_events.specs.Served as replies;
-ghost use Rattle.host_events.specs.Served.{IsLawfulAnswer};
+ghost use Rattle.host_events.specs.Served.{IsLawfulAnswer, bitmap_words, stores_of};
 
 use device_bus::{Answer, cpuid_register};
 use event_table::{Event, Results, Values, kind_of, row_of};
 use exit_info::Inject;
-use ghcb_layout::{BITMAP_HIGH, BITMAP_LOW, Field, bit_if, word_of};
+use ghcb_layout::{Bitmap, Field, bit_if, word_of};
 use msr_protocol::{MsrWord, write};
 use page_words::{Page, Word, Words};
-
-/// The bits of the two exit infos, in the upper word of the valid bitmap.
-const INFOS: u64 = 0x0018_0000_0000_0000;
 
 /// The exception that answers a page that breaks a rule: #GP with the error code 0.
 const REFUSAL: Inject = Inject {
@@ -28,47 +25,69 @@ const SEV_INFO: MsrWord = MsrWord::SevInfo {
     c_bit: 51,
 };
 
-fn store(page: &mut Words, number: u16, value: u64)
-    requires number { number < 512 }
-    ensures stored { page.new ≡ kept_after page.old (Store number value) }
+/// Stores the valid bitmap.
+fn store_bitmap(page: &mut Words, bitmap: &Bitmap)
+    ensures stored { page.new ≡ kept_after_all page.old (map store (bitmap_words bitmap.now)) }
 {
-    page.store(Word::new(number).unwrap(), value);
+    page.store(Word::BITMAP_LOW, bitmap.low);
+    page.store(Word::BITMAP_HIGH, bitmap.high);
 }
 
 /// Stores a result, where the row has it.
-fn store_if(page: &mut Words, field: Field, is: bool, value: u64)
-    ensures stored { page.new ≡ kept_after_all page.old (replies.given field is value) }
+fn store_if(page: &mut Words, field: Field, wanted: bool, value: u64)
+    ensures stored { page.new ≡ kept_after_all page.old (map store (word_if field wanted value)) }
 {
-    if is {
+    if wanted {
         page.store(word_of(field), value);
     }
 }
 
-fn store_done(page: &mut Words, results: &Results, values: &Values)
-    ensures stored { page.new ≡ kept_after_all page.old (replies.done_stores results.now values.now) }
+/// The bits of both exit infos, in the upper word of the valid bitmap.
+fn infos() -> u64
+    ensures value { result ≡ bit_of_field Field.ExitInfo1 true + bit_of_field Field.ExitInfo2 true }
 {
-    let low = bit_if(Field::Rax, results.a);
-    let high = bit_if(Field::Rcx, results.c)
+    bit_if(Field::ExitInfo1, true) + bit_if(Field::ExitInfo2, true)
+}
+
+/// The valid bitmap of a reply: the bits of both exit infos, and of the results.
+fn bitmap_of(results: &Results) -> Bitmap
+    ensures done { (values : Values) → result ≡ bits_of_words (replies.done_words results.now values) }
+{
+    let upper = bit_if(Field::Rcx, results.c)
         + bit_if(Field::Rdx, results.d)
-        + bit_if(Field::Rbx, results.b)
-        + INFOS;
+        + bit_if(Field::Rbx, results.b);
+    Bitmap {
+        low: bit_if(Field::Rax, results.a),
+        high: infos() + upper,
+    }
+}
+
+/// Stores status 0 and the results.
+fn store_done(page: &mut Words, results: &Results, values: &Values)
+    ensures stored { page.new ≡ kept_after_all page.old (stores_of (replies.done_words results.now values.now)) }
+{
     page.store(word_of(Field::ExitInfo1), 0);
     page.store(word_of(Field::ExitInfo2), 0);
     store_if(page, Field::Rax, results.a, values.a);
     store_if(page, Field::Rcx, results.c, values.c);
     store_if(page, Field::Rdx, results.d, values.d);
     store_if(page, Field::Rbx, results.b, values.b);
-    store(page, BITMAP_LOW, low);
-    store(page, BITMAP_HIGH, high);
+    store_bitmap(page, &bitmap_of(results));
 }
 
+/// Stores status 1 and the exception.
 fn store_raise(page: &mut Words, word: u64)
-    ensures stored { page.new ≡ kept_after_all page.old (replies.raise_stores word) }
+    ensures stored { page.new ≡ kept_after_all page.old (stores_of (replies.raise_words word)) }
 {
     page.store(word_of(Field::ExitInfo1), 1);
     page.store(word_of(Field::ExitInfo2), word);
-    store(page, BITMAP_LOW, 0);
-    store(page, BITMAP_HIGH, INFOS);
+    store_bitmap(
+        page,
+        &Bitmap {
+            low: 0,
+            high: infos(),
+        },
+    );
 }
 
 /// Refuses a page that breaks a rule.

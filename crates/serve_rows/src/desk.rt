@@ -1,11 +1,13 @@
-//! What the lines have said so far.
+// What the lines have said so far.
 ghost use Rattle.std.specs.Prelude.{◌<◌, ◌≤◌};
+ghost use Rattle.image_file.specs.Format.{most_vcpus};
 
 use crate::served::Served;
 use both_ends::exchange;
 use event_table::{Access, Event, Outcome, Values};
 use host_events::{Call, Host, Hypervisor, read_call};
-use page_words::{Page, Word, Words};
+use image_file::MOST_VCPUS;
+use page_words::{Page, Words};
 use show_text::{page_from_hex, word_from_hex};
 use std::alloc::{AllocError, Global};
 
@@ -37,7 +39,9 @@ impl Desk {
             "msr" => self.read_msr(value),
             "vcpu" => {
                 return match value.parse::<u16>() {
-                    Ok(vcpu) if vcpu < self.vcpus && self.vcpus <= 8 => self.serve(alloc, vcpu),
+                    Ok(vcpu) if vcpu < self.vcpus && self.vcpus <= MOST_VCPUS => self.serve(
+                        alloc, vcpu,
+                    ),
                     _ => String::from_str(alloc, "bad line\n"),
                 };
             }
@@ -46,6 +50,7 @@ impl Desk {
         String::from_str(alloc, if is_read { "" } else { "bad line\n" })
     }
 
+    /// Reads the number of vCPUs; whether it is one.
     fn read_vcpus(&mut self, value: &str) -> bool {
         match value.parse::<u16>() {
             Ok(vcpus) => {
@@ -56,6 +61,7 @@ impl Desk {
         }
     }
 
+    /// Reads the input's bytes; whether they are bytes.
     fn read_input(&mut self, alloc: Global, value: &str) -> bool {
         match hex::decode(alloc, value) {
             Ok(input) => {
@@ -66,7 +72,7 @@ impl Desk {
         }
     }
 
-    // The MSR word stays.
+    /// Reads the page; its MSR word stays.
     fn read_page(&mut self, value: &str) -> bool {
         match page_from_hex(value.as_bytes()) {
             Some(mut page) => {
@@ -78,6 +84,7 @@ impl Desk {
         }
     }
 
+    /// Reads the MSR word; whether it is one.
     fn read_msr(&mut self, value: &str) -> bool {
         match word_from_hex(value.as_bytes()) {
             Some(word) => {
@@ -88,13 +95,14 @@ impl Desk {
         }
     }
 
+    /// Serves the page for a vCPU over opened devices: the text of what became of it.
     fn serve(&mut self, alloc: Global, vcpu: u16) -> Result<String, AllocError>
         requires known { vcpu < self.old.vcpus }
-        requires few { self.old.vcpus ≤ 8 }
+        requires few { self.old.vcpus ≤ most_vcpus }
     {
         let mut host = Hypervisor::new(alloc);
         host.start(self.vcpus, self.input.clone()?)?;
-        let before = copy_of(&self.page);
+        let before = self.page.clone()?;
         host.serve(vcpu, &mut self.page)?;
         let entry = match (host.turn_at(0), read_call(vcpu, &before)) {
             (Some(turn), Call::Asked(event)) => Some((turn.vcpu, event)),
@@ -112,21 +120,10 @@ impl Desk {
     }
 }
 
-fn copy_of(page: &Words) -> Words {
-    let mut copy = Words::new();
-    for number in 0..512 {
-        if let Some(word) = Word::new(number) {
-            copy.store(word, page.word(word));
-        }
-    }
-    copy.set_msr(page.msr_word());
-    copy
-}
-
 /// How many accesses a host has served, which the vCPU asks of performance counter 0 over a page of its own.
 fn accesses(vcpu: u16, host: &mut Hypervisor) -> Result<u64, AllocError>
     requires known { vcpu < host.old.vcpus }
-    requires few { vcpu < 8 }
+    requires few { vcpu < most_vcpus }
 {
     let event = Event::One(Access::Rdpmc { index: 0 });
     Ok(match exchange(vcpu, &event, &mut Words::new(), host)? {

@@ -1,4 +1,4 @@
-//! A served page as lines of text.
+// A served page as lines of text.
 use event_table::{Access, Event};
 use page_words::{Word, Words};
 use std::fmt;

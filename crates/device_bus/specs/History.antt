@@ -1,18 +1,9 @@
--- Histories.
-use Rattle.std.specs.Prelude.{◌≡◌, ℕ, List, [], ◌∷◌, map}
+-- Histories of the devices.
+use Rattle.std.specs.Prelude.{◌≡◌, ℕ, List, [], ◌∷◌}
 use Rattle.event_table.specs.declared.event.Event.{Event}
 use Rattle.event_table.specs.declared.event.Event.TheVariants.{One}
-use Rattle.event_table.specs.declared.turn.Turn.{Turn}
-use Rattle.event_table.specs.Lawful.{count_of}
-use Rattle.host_events.specs.declared.history.Entry.{Entry}
+use Rattle.event_table.specs.declared.turn.Entry.{Entry}
 use Rattle.device_bus.specs.Devices.{Devices, opening, after_access}
-
--- the turn that an entry is
-abbrev pub turn_of : Entry → Turn
-turn_of entry = record { vcpu = entry.vcpu; count = count_of entry.event }
-
-abbrev pub turns_of : List Entry → List Turn
-turns_of entries = map turn_of entries
 
 -- the devices after the accesses of an event
 abbrev pub after_event : Devices → ℕ → Event → Devices
