@@ -1,10 +1,5 @@
-pub mod PlainRounds
-pub mod Visiting
-pub mod Meeting
-pub mod Seating
 pub mod Values
-pub mod Filling
 pub mod Limits
 pub mod Outputs
 pub mod Answering
-pub mod Readings
+pub mod Endings

@@ -7,11 +7,12 @@ use Rattle.event_table.specs.declared.turn.Finished.{Finished}
 use Rattle.event_table.specs.declared.turn.Turn.{Turn}
 use Rattle.device_bus.specs.Devices.{Devices}
 use Rattle.host_events.specs.Hosting.{Hosting}
-use Rattle.ghcb_cli.specs.Outside.{wrote}
-use Rattle.ghcb_cli.specs.Plain.{Machine, plain_run, rounds_machine}
-use Rattle.ghcb_cli.specs.Program.{Runs, output_of}
-use Rattle.ghcb_cli.specs.Ran.{RanRounds}
-use Rattle.ghcb_cli.proofs.PlainRounds.{rounds_plain}
+use Rattle.run_io.specs.Outside.{wrote}
+use Rattle.plain_machine.specs.Plain.{Machine, plain_run, rounds_machine}
+use Rattle.ghcb_cli.specs.RunCommand.{Runs}
+use Rattle.ghcb_cli.specs.Said.{output_of}
+use Rattle.round_runner.specs.Ran.{RanRounds}
+use Rattle.plain_machine.proofs.PlainRounds.{rounds_plain}
 
 -- the machine of a run is that of all rounds
 pub ran_machine : (image : Contents) (steps : ℕ) (input : List ℕ) (f : Finished) (h : Hosting) → (ran : RanRounds image steps input f h) → ran.machine ≡ rounds_machine image steps input

@@ -35,17 +35,17 @@ most_steps = 2097152
 abbrev pub most_hostile_steps : ℕ
 most_hostile_steps = 65536
 
-abbrev pub run_of : ℕ → Command
-run_of steps = Run steps
+abbrev pub run_command : ℕ → Command
+run_command steps = Run steps
 
-abbrev pub hostile_of : ℕ → Command
-hostile_of steps = Hostile steps
+abbrev pub hostile_command : ℕ → Command
+hostile_command steps = Hostile steps
 
 -- a run by its name and its steps
 abbrev pub run_by : List ℕ → List ℕ → Option Command
 run_by name steps =
-    if bytes_eq name (codes "run") then option_map run_of (decimal_of 1 most_steps steps)
-    else if bytes_eq name (codes "hostile") then option_map hostile_of (decimal_of 1 most_hostile_steps steps)
+    if bytes_eq name (codes "run") then option_map run_command (decimal_of 1 most_steps steps)
+    else if bytes_eq name (codes "hostile") then option_map hostile_command (decimal_of 1 most_hostile_steps steps)
     else None
 
 -- what is read of an MSR word, of an exit info and of a page
@@ -74,8 +74,8 @@ command_of (name ∷ kind ∷ digits ∷ []) = if bytes_eq name (codes "show") t
 command_of _ = None
 
 -- a word by its place, or no bytes where there are fewer words
-abbrev pub word_at : List (List ℕ) → ℕ → List ℕ
-word_at words k = slice_index_or words k []
+abbrev pub command_word : List (List ℕ) → ℕ → List ℕ
+command_word words k = slice_index_or words k []
 
 -- the reading that a command asks for, from the digits of a page
 abbrev pub reading_by : List ℕ → Option Command → Option (List ℕ)
@@ -88,4 +88,4 @@ reading_by digits None = None
 
 -- the reading that the words ask for, if they ask for one
 abbrev pub reading_of : List (List ℕ) → Option (List ℕ)
-reading_of words = reading_by (word_at words 2) (command_of words)
+reading_of words = reading_by (command_word words 2) (command_of words)

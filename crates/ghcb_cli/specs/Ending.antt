@@ -1,45 +1,59 @@
 -- How a call of the program ends, and what each end means.
-use Rattle.std.specs.Prelude.{◌≡◌, ◌⊎◌, ℕ, List, [], Some, None, IfSome}
+use Rattle.std.specs.Prelude.{◌≡◌, ◌⊎◌, ℕ, true, List, [], Option, Some, None, IfSome}
 use Rattle.image_file.specs.Image.{Contents}
 use Rattle.event_table.specs.declared.turn.Finished.{Finished}
 use Rattle.host_events.specs.Hosting.{Hosting, IsTelling}
+use Rattle.run_io.specs.Outside.{FilesTold, SinkTold, Rose, FailsToPut, wrote}
+use Rattle.round_runner.specs.Ran.{RanRounds}
 use Rattle.ghcb_cli.specs.declared.top.Done.{Done}
-use Rattle.ghcb_cli.specs.declared.top.Ending.{Ending}
-use Rattle.ghcb_cli.specs.declared.top.Ending.TheVariants as ending
-use Rattle.ghcb_cli.specs.declared.top.Unready.{Unready}
-use Rattle.ghcb_cli.specs.declared.top.Unready.TheVariants as unready
+use Rattle.ghcb_cli.specs.declared.commands.Ending.{Ending}
+use Rattle.ghcb_cli.specs.declared.commands.Ending.TheVariants as ending
+use Rattle.ghcb_cli.specs.declared.files.Unready.{Unready}
+use Rattle.ghcb_cli.specs.declared.files.Unready.TheVariants as unready
 use Rattle.ghcb_cli.specs.declared.command.Command.TheVariants.{Run, Hostile}
 use Rattle.ghcb_cli.specs.declared.text.Refused.{Refused}
 use Rattle.ghcb_cli.specs.Command.{command_of, reading_of}
-use Rattle.ghcb_cli.specs.Outside.{Shelf, Paper, Rose, Puts, wrote}
-use Rattle.ghcb_cli.specs.Program.{said, says_refused, answered_text, Runs, RunsFiles, IsAnswered, RunsScript, IsToEnd, IsPart, IsOutput}
+use Rattle.ghcb_cli.specs.Files.{Folder}
+use Rattle.ghcb_cli.specs.RunCommand.{RunsFiles}
+use Rattle.ghcb_cli.specs.Said.{Said, said, says_refused, answered_text, IsToEnd}
+use Rattle.ghcb_cli.specs.ScriptCommand.{IsAnswered, RunsScript}
 use Rattle.ghcb_cli.specs.Text.{usage, line_of}
 
 -- what the files, the sink and the host told before and after
 pub record Told : Type 0 where
-  pub files : Shelf
-  pub out : Paper
+  pub files : FilesTold
+  pub out : SinkTold
   pub host : Hosting
 
-abbrev pub told : Shelf → Paper → Hosting → Told
+abbrev pub told : FilesTold → SinkTold → Hosting → Told
 told files out host = record { files = files; out = out; host = host }
 
 -- the host is called for a run over it alone
 abbrev pub IsUncalled : List (List ℕ) → Told → Told → Type 0
 IsUncalled words old new = ((steps : ℕ) → command_of words ≡ Some (Run steps) → ⊥) → new.host ≡ old.host
 
+-- the text is known of what is to be said: that of a run over a host needs a host that tells
+abbrev pub IsKnown : List (List ℕ) → Hosting → Said → Type 0
+IsKnown words h s = (steps : ℕ) → command_of words ≡ Some (Run steps) → s.status ≡ 0 → IsTelling h
+
+-- The text is what is to be said, where that is known: of the words alone where they are no command or ask for a reading.
+pub record IsText (folder : Option Folder) (words : List (List ℕ)) (h : Hosting) (text : List ℕ) : Type 0 where
+  pub outside : command_of words ≡ None → text ≡ usage
+  pub shown : (reading : List ℕ) → reading_of words ≡ Some reading → text ≡ reading
+  pub inside : IfSome folder (λ f. (s : Said) × (said f words ≡ Some s) × (IsKnown words h s → text ≡ s.text))
+
 -- the run, with its output written
 pub record Finishes (words : List (List ℕ)) (old new : Told) (f : Finished) : Type 0 where
   pub steps : ℕ
   pub command : command_of words ≡ Some (Run steps)
-  pub ran : IsTelling old.host → IfSome old.files.folder (λ folder. RunsFiles folder words f new.host old.out.written new.out.written)
+  pub ran : IsTelling old.host → RunsFiles old.files.folder words f new.host old.out.written new.out.written
   pub is_end : IsToEnd old.files.folder words 0
 
 -- the run on a script's words, with its text written
 pub record Answers (words : List (List ℕ)) (old new : Told) (f : Finished) (heard : List ℕ) : Type 0 where
   pub steps : ℕ
   pub command : command_of words ≡ Some (Hostile steps)
-  pub ran : IfSome old.files.folder (λ folder. RunsScript folder words f heard old.out.written new.out.written)
+  pub ran : RunsScript old.files.folder words f heard old.out.written new.out.written
   pub is_end : IsToEnd old.files.folder words 0
   pub host : new.host ≡ old.host
 
@@ -64,16 +78,23 @@ pub record Shows (words : List (List ℕ)) (old new : Told) : Type 0 where
   pub writes : new.out.written ≡ wrote old.out.written text
   pub host : new.host ≡ old.host
 
--- a read failed
-pub record FailsRead (old new : Told) : Type 0 where
+-- A read failed; where it is told that none is to fail, a file is absent.
+pub record FailsRead (words : List (List ℕ)) (old new : Told) : Type 0 where
   pub rose : Rose old.files.faults new.files.faults
+  pub absent : old.files.is_reliable ≡ true → IfSome old.files.folder (λ folder. said folder words ≡ None)
   pub writes : new.out.written ≡ old.out.written
   pub host : new.host ≡ old.host
 
 -- a write failed
 pub record FailsWrite (words : List (List ℕ)) (old new : Told) : Type 0 where
-  pub rose : Rose old.out.faults new.out.faults
-  pub part : IsPart old.files.folder words old.host old.out.written new.out.written
+  pub text : List ℕ
+  pub is_text : IsText old.files.folder words old.host text
+  pub fails : FailsToPut text old.out new.out
+  pub uncalled : IsUncalled words old new
+
+-- memory was wanting: nothing was written, and the host is called for a run over it alone
+pub record WantsMemory (words : List (List ℕ)) (old new : Told) : Type 0 where
+  pub writes : new.out.written ≡ old.out.written
   pub uncalled : IsUncalled words old new
 
 abbrev pub EndsAs : List (List ℕ) → Told → Told → Ending → Type 0
@@ -82,37 +103,47 @@ EndsAs words old new (ending.Answered f heard) = Answers words old new f heard.i
 EndsAs words old new ending.Usage = Uses words old new
 EndsAs words old new ending.Shown = Shows words old new
 EndsAs words old new (ending.Refused r) = Refuses words old new r
-EndsAs words old new ending.ReadFault = FailsRead old new
+EndsAs words old new ending.ReadFault = FailsRead words old new
 EndsAs words old new ending.WriteFault = FailsWrite words old new
-EndsAs words old new ending.OutOfMemory = (new.out.written ≡ old.out.written) × IsUncalled words old new
+EndsAs words old new ending.OutOfMemory = WantsMemory words old new
+
+-- the call put a text and ends so, or a write of it failed
+abbrev pub PutsAs : Ending → List ℕ → SinkTold → SinkTold → Ending → Type 0
+PutsAs done text old new e =
+    ((e ≡ done) × (new.written ≡ wrote old.written text))
+    ⊎ ((e ≡ ending.WriteFault) × FailsToPut text old new)
+
+-- the call wanted memory before it wrote
+abbrev pub WantsAs : SinkTold → SinkTold → Ending → Type 0
+WantsAs old new e = (e ≡ ending.OutOfMemory) × (new ≡ old)
+
+-- the run of an image over an input, and the console's bytes
+pub record IsRun (image : Contents) (input : List ℕ) (steps : ℕ) (before after : Hosting) (f : Finished) (text : List ℕ) : Type 0 where
+  pub ran : IsTelling before → RanRounds image steps input f after
+  pub console : IfSome after.devices (λ d. text ≡ d.console)
 
 -- how the run of an image over an input ends
-abbrev pub RunEndsAs : Contents → List ℕ → ℕ → Hosting → Hosting → Paper → Paper → Ending → Type 0
-RunEndsAs image input steps before after old new (ending.Done f) = IsTelling before → Runs image input steps f after old.written new.written
-RunEndsAs image input steps before after old new ending.WriteFault = Rose old.faults new.faults × ((text : List ℕ) × Puts old.written text new.written × IsOutput image steps input before text)
-RunEndsAs image input steps before after old new ending.OutOfMemory = new.written ≡ old.written
-RunEndsAs image input steps before after old new _ = ⊥
+abbrev pub RunEndsAs : Contents → List ℕ → ℕ → Hosting → Hosting → SinkTold → SinkTold → Ending → Type 0
+RunEndsAs image input steps before after old new e =
+    ((f : Finished) × (text : List ℕ) × IsRun image input steps before after f text × PutsAs (ending.Done f) text old new e)
+    ⊎ WantsAs old new e
+
+-- the run of an image on a script's words is handed back
+abbrev pub IsHandedBack : Contents → List ℕ → ℕ → Ending → Type 0
+IsHandedBack image script steps (ending.Answered f heard) = IsAnswered image steps script f heard.items
+IsHandedBack image script steps _ = ⊥
 
 -- how the run of an image on a script's words ends
-abbrev pub ScriptEndsAs : Contents → List ℕ → ℕ → Paper → Paper → Ending → Type 0
-ScriptEndsAs image script steps old new (ending.Answered f heard) = IsAnswered image steps script f heard.items × (new.written ≡ wrote old.written (answered_text image steps script))
-ScriptEndsAs image script steps old new ending.WriteFault = Rose old.faults new.faults × Puts old.written (answered_text image steps script) new.written
-ScriptEndsAs image script steps old new ending.OutOfMemory = new.written ≡ old.written
-ScriptEndsAs image script steps old new _ = ⊥
+abbrev pub ScriptEndsAs : Contents → List ℕ → ℕ → SinkTold → SinkTold → Ending → Type 0
+ScriptEndsAs image script steps old new e =
+    ((done : Ending) × IsHandedBack image script steps done × PutsAs done (answered_text image steps script) old new e)
+    ⊎ WantsAs old new e
 
 -- how a call ends that has nothing to run
-abbrev pub GivesUpAs : Unready → Paper → Paper → Ending → Type 0
-GivesUpAs (unready.Refused r) old new e =
-    ((e ≡ ending.Refused r) × (new.written ≡ wrote old.written (line_of r)))
-    ⊎ ((e ≡ ending.WriteFault) × Rose old.faults new.faults × Puts old.written (line_of r) new.written)
+abbrev pub GivesUpAs : Unready → SinkTold → SinkTold → Ending → Type 0
+GivesUpAs (unready.Refused r) old new e = PutsAs (ending.Refused r) (line_of r) old new e
 GivesUpAs unready.ReadFault old new e = (e ≡ ending.ReadFault) × (new ≡ old)
-GivesUpAs unready.OutOfMemory old new e = (e ≡ ending.OutOfMemory) × (new ≡ old)
-
--- how a call ends that shows a text
-abbrev pub ShowsAs : List ℕ → Paper → Paper → Ending → Type 0
-ShowsAs text old new e =
-    ((e ≡ ending.Shown) × (new.written ≡ wrote old.written text))
-    ⊎ ((e ≡ ending.WriteFault) × Rose old.faults new.faults × Puts old.written text new.written)
+GivesUpAs unready.OutOfMemory old new e = WantsAs old new e
 
 -- the order, steps and ends of a call
 abbrev pub finished_of : Done → Finished

@@ -1,11 +1,9 @@
-pub mod Plain
-pub mod Standing
-pub mod Ran
-pub mod Outside
-pub mod Memory
 pub mod Command
+pub mod Task
 pub mod Text
-pub mod Reading
-pub mod Program
+pub mod Files
+pub mod Said
+pub mod RunCommand
+pub mod ScriptCommand
 pub mod Unready
 pub mod Ending

@@ -1,7 +1,7 @@
 -- The program's texts.
 use Rattle.std.specs.Prelude.{ℕ, List, ◌++◌, codes}
 use Rattle.show_text.specs.Number.{labelled, line_end}
-use Rattle.image_file.specs.Fault.{number_of}
+use Rattle.image_file.specs.Fault.{fault_number}
 use Rattle.ghcb_cli.specs.declared.text.Refused.{Refused}
 use Rattle.ghcb_cli.specs.declared.text.Refused.TheVariants.{ImageLimit, Image, NotYet, InputLimit, ScriptLimit, ScriptLine}
 
@@ -11,7 +11,7 @@ usage = codes "usage: ghcb_run run|plain|hostile|live|secret|show|make\n"
 -- what is refused: a limit, an image by the number of its first broken rule, or a script by the number of its first bad line
 abbrev pub what_of : Refused → List ℕ
 what_of ImageLimit = codes "image limit"
-what_of (Image fault) = labelled (codes "image ") (number_of fault)
+what_of (Image fault) = labelled (codes "image ") (fault_number fault)
 what_of NotYet = codes "not-yet"
 what_of InputLimit = codes "input limit"
 what_of ScriptLimit = codes "script limit"

@@ -1,13 +1,15 @@
 // The words of the program.
-ghost use Rattle.std.specs.Prelude.{◌≡◌, true, map, nat_le, if◌then◌else◌, Some, None};
+ghost use Rattle.std.specs.Prelude.{◌≡◌, true, map, nat_le, if◌then◌else◌, Some, None, IfSome, option_map};
 ghost use Rattle.std.specs.Char.{is_ascii_digit};
 ghost use Rattle.std.specs.List.{list_all};
 ghost use Rattle.std.specs.String.{string_bytes};
-ghost use Rattle.ghcb_cli.specs.Command.{value_after, decimal_of, show_of, command_of, reading_by, word_at};
+ghost use Rattle.ghcb_cli.specs.Command.{value_after, decimal_of, show_of, command_of, command_word};
+ghost use Rattle.ghcb_cli.specs.Task.{command_in, HasWords};
 
-use show_text::{Text, info_text, msr_text, page_from_hex, page_text, word_from_hex};
+use page_words::Words;
+use show_text::{page_from_hex, word_from_hex};
 
-/// What the words ask for. File names are read from the words themselves.
+/// What the words ask for. File names and the digits of a page are read from the words themselves.
 #[derive(Clone, Copy, Debug, PartialEq, Eq)]
 pub enum Command {
     /// Runs an image over the host, within so many steps for each vCPU.
@@ -22,32 +24,52 @@ pub enum Command {
     ShowInfo(u64),
 }
 
+/// A command with the names that its words hold, and with the page whose digits they are.
+#[derive(Drop)]
+pub enum Task<'a> {
+    Run {
+        image: &'a str,
+        input: &'a str,
+        steps: u64,
+    },
+    Hostile {
+        image: &'a str,
+        script: &'a str,
+        steps: u64,
+    },
+    ShowPage(Words),
+    ShowMsr(u64),
+    ShowInfo(u64),
+}
+
 /// The most steps that a run over the host can be given.
 const MOST_STEPS: u64 = 2_097_152;
 
 /// The most steps that a run on a script can be given.
 const MOST_HOSTILE_STEPS: u64 = 65_536;
 
+/// Whether all bytes are digits.
 fn all_digits(text: &[u8]) -> bool
     ensures { result ≡ list_all is_ascii_digit text.now }
 {
     text.iter().all(|digit| digit.is_ascii_digit())
 }
 
+/// Whether a text is digits alone, and at least one.
 fn are_digits(text: &[u8]) -> bool
     ensures { result ≡ Rattle.ghcb_cli.specs.Command.are_digits text.now }
 {
     !text.is_empty() && all_digits(text)
 }
 
-// Whether a zero stands before other digits.
+/// Whether a zero stands before other digits.
 fn has_leading_zero(text: &[u8]) -> bool
     ensures { result ≡ Rattle.ghcb_cli.specs.Command.has_leading_zero text.now }
 {
     text.len() > 1 && text[0] == b'0'
 }
 
-// The number that digits write, where it isn't above `most`.
+/// The number that digits write, where it isn't above `most`.
 fn value_up_to(text: &[u8], most: u64) -> Option<u64>
     requires digits { list_all is_ascii_digit text.now ≡ true }
     ensures value { result ≡ (if nat_le (value_after 0 text.now) most then Some (value_after 0 text.now) else None) }
@@ -67,7 +89,7 @@ fn value_up_to(text: &[u8], most: u64) -> Option<u64>
     }
 }
 
-// The number that a text writes, where it has no leading zero and is from `least` to `most`.
+/// The number that a text writes, where it has no leading zero and is from `least` to `most`.
 fn decimal(text: &[u8], least: u64, most: u64) -> Option<u64>
     ensures number { result ≡ decimal_of least most text.now }
 {
@@ -80,40 +102,68 @@ fn decimal(text: &[u8], least: u64, most: u64) -> Option<u64>
     }
 }
 
-// What is to be shown, by its kind and its digits.
-fn show(kind: &str, digits: &str) -> Option<Command>
-    ensures command { result ≡ show_of kind.now digits.now }
+/// What is to be shown, by its kind and its digits.
+fn show<'a>(kind: &str, digits: &str) -> Option<Task<'a>>
+    ensures command { option_map command_in result ≡ show_of kind.now digits.now }
+    ensures words { IfSome result (λ task. HasWords kind.now digits.now task) }
 {
     match kind {
         "page" => match page_from_hex(digits.as_bytes()) {
-            Some(_) => Some(Command::ShowPage),
+            Some(page) => Some(Task::ShowPage(page)),
             None => None,
         },
         "msr" => match word_from_hex(digits.as_bytes()) {
-            Some(word) => Some(Command::ShowMsr(word)),
+            Some(word) => Some(Task::ShowMsr(word)),
             None => None,
         },
         "info" => match word_from_hex(digits.as_bytes()) {
-            Some(word) => Some(Command::ShowInfo(word)),
+            Some(word) => Some(Task::ShowInfo(word)),
             None => None,
         },
         _ => None,
     }
 }
 
-// A run by its name and its steps.
-fn run_by(name: &str, steps: &[u8]) -> Option<Command>
-    ensures command { result ≡ Rattle.ghcb_cli.specs.Command.run_by name.now steps.now }
+/// A run by its name, the names of its two files, and its steps.
+fn run_by<'a>(name: &str, image: &'a str, second: &'a str, steps: &[u8]) -> Option<Task<'a>>
+    ensures command { option_map command_in result ≡ Rattle.ghcb_cli.specs.Command.run_by name.now steps.now }
+    ensures words { IfSome result (λ task. HasWords image.now second.now task) }
 {
     match name {
-        "run" => {
-            let steps = decimal(steps, 1, MOST_STEPS)?;
-            Some(Command::Run { steps })
-        }
-        "hostile" => {
-            let steps = decimal(steps, 1, MOST_HOSTILE_STEPS)?;
-            Some(Command::Hostile { steps })
-        }
+        "run" => match decimal(steps, 1, MOST_STEPS) {
+            Some(steps) => Some(Task::Run {
+                image,
+                input: second,
+                steps,
+            }),
+            None => None,
+        },
+        "hostile" => match decimal(steps, 1, MOST_HOSTILE_STEPS) {
+            Some(steps) => Some(Task::Hostile {
+                image,
+                script: second,
+                steps,
+            }),
+            None => None,
+        },
+        _ => None,
+    }
+}
+
+/// What the words of `ghcb_run` ask for; none exactly where they are none of its grammar.
+pub fn task_in(words: &[String]) -> Option<Task<'_>>
+    ensures command { option_map command_in result ≡ command_of (map string_bytes words.now) }
+    ensures words { IfSome result (λ task. HasWords
+        (command_word (map string_bytes words.now) 1) (command_word (map string_bytes words.now) 2) task) }
+{
+    match words {
+        [name, image, second, steps] if !image.is_empty() && !second.is_empty() => run_by(
+            name.as_str(),
+            image.as_str(),
+            second.as_str(),
+            steps.as_bytes(),
+        ),
+        [name, kind, digits] if name.as_str() == "show" => show(kind.as_str(), digits.as_str()),
         _ => None,
     }
 }
@@ -122,36 +172,12 @@ fn run_by(name: &str, steps: &[u8]) -> Option<Command>
 pub fn parse(words: &[String]) -> Option<Command>
     ensures command { result ≡ command_of (map string_bytes words.now) }
 {
-    match words {
-        [name, image, second, steps] if !image.is_empty() && !second.is_empty() => {
-            run_by(name.as_str(), steps.as_bytes())
-        }
-        [name, kind, digits] if name.as_str() == "show" => show(kind.as_str(), digits.as_str()),
-        _ => None,
-    }
-}
-
-/// The reading that a command asks for, from the words that have a page's digits; none for a run.
-pub fn reading(words: &[String], command: &Command) -> Option<Text>
-    ensures text { result ≡ reading_by (word_at (map string_bytes words.now) 2) (Some command.now) }
-{
-    match command {
-        Command::Run { .. } | Command::Hostile { .. } => None,
-        Command::ShowPage => match page_from_hex(name_at(words, 2).as_bytes()) {
-            Some(page) => Some(page_text(&page)),
-            None => None,
-        },
-        Command::ShowMsr(word) => Some(msr_text(*word)),
-        Command::ShowInfo(word) => Some(info_text(*word)),
-    }
-}
-
-/// A word by its place, or no bytes where there are fewer words.
-pub fn name_at(words: &[String], at: usize) -> &str
-    ensures word { result.now ≡ word_at (map string_bytes words.now) at }
-{
-    match words.get(at) {
-        Some(word) => word.as_str(),
-        None => "",
+    match task_in(words) {
+        Some(Task::Run { steps, .. }) => Some(Command::Run { steps }),
+        Some(Task::Hostile { steps, .. }) => Some(Command::Hostile { steps }),
+        Some(Task::ShowPage(_)) => Some(Command::ShowPage),
+        Some(Task::ShowMsr(word)) => Some(Command::ShowMsr(word)),
+        Some(Task::ShowInfo(word)) => Some(Command::ShowInfo(word)),
+        None => None,
     }
 }

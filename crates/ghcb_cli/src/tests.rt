@@ -2,11 +2,13 @@
 ghost use Rattle.std.specs.Prelude.{None};
 ghost use Rattle.host_events.specs.Hypervised.{telling};
 
-use crate::{MemFiles, MemSink, Refused, ghcb_main};
+use crate::{Refused, ghcb_main};
 use event_table::{End, Reason, Turn};
 use host_events::{Host, Hypervisor};
 use image_file::ImageFault;
-use page_words::{Page, Word, Words};
+use image_samples::sample_file;
+use page_words::{Word, Words};
+use run_io::{MemFiles, MemSink};
 use std::alloc::{AllocError as OutOfMemory, Global};
 use std::test::Fail;
 use std::thread::Threads;
@@ -14,19 +16,10 @@ use std::thread::Threads;
 /// MOV EDX, 3F8h; MOV AL, 48h; OUT DX, AL; HLT.
 const HELLO: [u8; 9] = [0xBA, 0xF8, 0x03, 0, 0, 0xB0, 0x48, 0xEE, 0xF4];
 
-/// The image file of a code of fewer than 256 bytes over 4,096 bytes of RAM.
-fn image_file(alloc: Global, code: &[u8]) -> Result<Vec<u8>, Fail> {
-    let mut image = b"GHCBIMG1\x01\0\0\0\0\x10\0\0".to_vec(alloc)?;
-    image.push((code.len() & 0xFF) as u8)?;
-    image.resize(64, 0)?;
-    image.extend_from_slice(code)?;
-    Ok(image)
-}
-
 /// A folder with the file `image` of this code and an empty file `input`.
 fn folder(alloc: Global, code: &[u8]) -> Result<MemFiles, Fail> {
     let mut files = MemFiles::new(alloc);
-    let image = image_file(alloc, code)?;
+    let image = sample_file(alloc, code, 0, 0)?;
     files.add("image", &image)?;
     files.add("input", b"")?;
     Ok(files)
@@ -175,7 +168,7 @@ const BROKEN: [Broken; 7] = [
 fn images_that_break_a_rule_are_refused(rt: HostRuntime) -> Result<(), Fail> {
     let alloc = rt.alloc();
     for (at, byte, len, refused, line) in BROKEN {
-        let mut image = image_file(alloc, &HELLO)?;
+        let mut image = sample_file(alloc, &HELLO, 0, 0)?;
         if let Some(slot) = image.get_mut(at) {
             *slot = byte;
         }
@@ -260,9 +253,9 @@ fn guests_run_to_their_ends(rt: HostRuntime) -> Result<(), Fail> {
     Ok(())
 }
 
-/// A guest, the byte at offset 32 of its image, and what its run with the input "hi" is to leave: the
+/// A guest, the address of its handler of #GP or 0, and what its run with the input "hi" is to leave: the
 /// output, the accesses, the steps and the end.
-type Asking<'a> = (&'a [u8], u8, &'a [u8], u64, u64, End);
+type Asking<'a> = (&'a [u8], u32, &'a [u8], u64, u64, End);
 
 const ASKING: [Asking; 7] = [
     // An echo, at 0: MOV EDX, 3FDh; IN AL, DX; TEST AL, 1; JE to the HLT; MOV EDX, 3F8h; IN AL, DX;
@@ -350,10 +343,7 @@ const ASKING: [Asking; 7] = [
 fn guests_are_answered_by_the_devices(rt: HostRuntime) -> Result<(), Fail> {
     let alloc = rt.alloc();
     for (code, handler, output, accesses, steps, end) in ASKING {
-        let mut image = image_file(alloc, code)?;
-        if let Some(slot) = image.get_mut(32) {
-            *slot = handler;
-        }
+        let image = sample_file(alloc, code, 0, handler)?;
         let mut files = MemFiles::new(alloc);
         files.add("image", &image)?;
         files.add("input", b"hi")?;
@@ -379,17 +369,6 @@ struct Watching {
     left: Vec<Words>,
 }
 
-fn copy_of(page: &Words) -> Words {
-    let mut copy = Words::new();
-    for number in 0..512 {
-        if let Some(word) = Word::new(number) {
-            copy.store(word, page.word(word));
-        }
-    }
-    copy.set_msr(page.msr_word());
-    copy
-}
-
 impl Host for Watching {
     ghost told = { λ w. telling w.host };
 
@@ -400,10 +379,12 @@ impl Host for Watching {
     fn serve(&mut self, vcpu: u16, page: &mut Words) -> Result<(), OutOfMemory> {
         self.shown.reserve(1)?;
         self.left.reserve(1)?;
-        let shown = copy_of(page);
+        let shown = page.clone()?;
         self.host.serve(vcpu, page)?;
         let _ = self.shown.push(shown);
-        let _ = self.left.push(copy_of(page));
+        if let Ok(left) = page.clone() {
+            let _ = self.left.push(left);
+        }
         Ok(())
     }
 
@@ -669,6 +650,40 @@ fn the_words_that_a_script_gave_are_handed_back(rt: HostRuntime) -> Result<(), F
     Ok(())
 }
 
+/// What a command says of a folder with the guest that prints `H`, in which the file of this name has so
+/// many zeros for its bytes.
+fn said_of_zeros<R: Threads + Sync>(
+    rt: &R,
+    alloc: Global,
+    name: &str,
+    size: usize,
+    words: &[&str],
+) -> Result<(u8, Option<Refused>), Fail> {
+    let mut files = MemFiles::new(alloc);
+    let zeros = vec![in alloc; 0u8; size]?;
+    files.add(name, &zeros)?;
+    let image = sample_file(alloc, &HELLO, 0, 0)?;
+    files.add("image", &image)?;
+    let mut out = MemSink::new(alloc, 100)?;
+    says(rt, alloc, words, &mut files, &mut out)
+}
+
+#[test]
+fn the_image_has_a_limit(rt: HostRuntime) -> Result<(), Fail> {
+    let alloc = rt.alloc();
+    for (size, refused) in [
+        (16_777_280, Refused::Image(ImageFault::BadMagic)),
+        (16_777_281, Refused::ImageLimit),
+    ] {
+        let words = ["run", "image", "input", "9"];
+        assert_eq!(rt;
+            said_of_zeros(&rt, alloc, "image", size, &words)?,
+            (3, Some(refused))
+        );
+    }
+    Ok(())
+}
+
 #[test]
 fn the_input_has_a_limit(rt: HostRuntime) -> Result<(), Fail> {
     let alloc = rt.alloc();
@@ -676,14 +691,24 @@ fn the_input_has_a_limit(rt: HostRuntime) -> Result<(), Fail> {
         (16_777_216, (0, None)),
         (16_777_217, (3, Some(Refused::InputLimit))),
     ] {
-        let mut files = MemFiles::new(alloc);
-        let image = image_file(alloc, &HELLO)?;
-        files.add("image", &image)?;
-        let input = vec![in alloc; 0u8; size]?;
-        files.add("input", &input)?;
-        let mut out = MemSink::new(alloc, 100)?;
         let words = ["run", "image", "input", "9"];
-        assert_eq!(rt; says(&rt, alloc, &words, &mut files, &mut out)?, told);
+        assert_eq!(rt; said_of_zeros(&rt, alloc, "input", size, &words)?, told);
+    }
+    Ok(())
+}
+
+#[test]
+fn the_script_has_a_limit(rt: HostRuntime) -> Result<(), Fail> {
+    let alloc = rt.alloc();
+    for (size, refused) in [
+        (16_777_216, Refused::ScriptLine(1)),
+        (16_777_217, Refused::ScriptLimit),
+    ] {
+        let words = ["hostile", "image", "script", "9"];
+        assert_eq!(rt;
+            said_of_zeros(&rt, alloc, "script", size, &words)?,
+            (3, Some(refused))
+        );
     }
     Ok(())
 }

@@ -1,8 +1,10 @@
-//! `ghcb_run run IMAGE INPUT STEPS`: runs a guest over a hypervisor and prints its console.
+//! `ghcb_run run IMAGE INPUT STEPS` runs a guest over a hypervisor and prints its console; `ghcb_run hostile IMAGE SCRIPT STEPS`
+//! runs it on the words of a script and prints its trace; `ghcb_run show page|msr|info HEX` prints what the digits mean.
 #![tactic(auto)]
 
-use ghcb_cli::{DiskFiles, OutSink, ghcb_main};
+use ghcb_cli::ghcb_main;
 use host_events::Hypervisor;
+use run_io::{DiskFiles, OutSink};
 use std::env;
 use std::process::ExitCode;
 
@@ -18,7 +20,7 @@ fn main(rt: HostRuntime) -> ExitCode {
         Ok(words) => words,
         Err(_) => Vec::new(alloc),
     };
-    let mut files = DiskFiles::new(&rt);
+    let mut files = DiskFiles::new(&rt, alloc);
     let mut out = OutSink::new(&rt);
     let mut host = Hypervisor::new(alloc);
     let done = ghcb_main(&rt, alloc, &words, &mut files, &mut out, &mut host);

@@ -1,0 +1,217 @@
+-- How a call of the program ends, from how its parts end.
+use Rattle.std.proofs.Common.{◌≡◌, ℕ, ◌⊎◌, true, inl, inr, List, length, Option, Some, None, Ok, refl, sym, ap, ◌∙◌, subst}
+use Rattle.std.specs.Prelude.{IfSome}
+use Rattle.std.proofs.lemmas.Option.{same_Some}
+use Rattle.image_file.specs.Image.{Contents}
+use Rattle.event_table.specs.declared.turn.Finished.{Finished}
+use Rattle.host_events.specs.Hosting.{Hosting}
+use Rattle.run_io.specs.Outside.{SinkTold, FailsToPut, HasSpace, wrote}
+use Rattle.ghcb_cli.specs.declared.command.Command.{Command}
+use Rattle.ghcb_cli.specs.declared.command.Command.TheVariants.{Run, Hostile}
+use Rattle.ghcb_cli.specs.declared.commands.Ending.{Ending}
+use Rattle.ghcb_cli.specs.declared.commands.Ending.TheVariants as ending
+use Rattle.ghcb_cli.specs.declared.files.Unready.{Unready}
+use Rattle.ghcb_cli.specs.declared.files.Unready.TheVariants as unready
+use Rattle.ghcb_cli.specs.declared.text.Refused.{Refused}
+use Rattle.ghcb_cli.specs.Command.{command_of, reading_of, command_word}
+use Rattle.ghcb_cli.specs.Ending.{Told, Finishes, Answers, Uses, Refuses, Shows, FailsRead, FailsWrite, WantsMemory, EndsAs, PutsAs, WantsAs, GivesUpAs, RunEndsAs, ScriptEndsAs, IsRun, IsHandedBack, IsKnown, IsText}
+use Rattle.ghcb_cli.specs.Files.{Folder, Holds, AreRefused, AreUnread, single_in, input_in, image_in, script_in}
+use Rattle.ghcb_cli.specs.Said.{Said, Making, running, answering, answered_text, output_of, said, says_refused, says_output, IsToEnd}
+use Rattle.ghcb_cli.specs.Text.{usage, line_of}
+use Rattle.ghcb_cli.specs.Unready.{Explains}
+use Rattle.ghcb_cli.proofs.Answering.{IsMadeBy, made_by_run, made_by_script, first_refused, none_said, said_output, text_is, to_end, usage_is, usage_text, shown_is, shown_text}
+use Rattle.ghcb_cli.proofs.Outputs.{output_shown, runs_written}
+
+-- a text was put, or a write of it failed
+put_ends : (words : List (List ℕ)) (text : List ℕ) (old new : Told) (done e : Ending) → PutsAs done text old.out new.out e →
+    (new.out.written ≡ wrote old.out.written text → EndsAs words old new done) → (FailsToPut text old.out new.out → FailsWrite words old new) → EndsAs words old new e
+put_ends words text old new done e (inl put) ends fails = subst (λ (x : Ending). EndsAs words old new x) (sym put.0) (ends put.1)
+put_ends words text old new done e (inr failed) ends fails = subst (λ (x : Ending). EndsAs words old new x) (sym failed.0) (fails failed.1)
+
+wants_ends : (words : List (List ℕ)) (old new : Told) (e : Ending) → WantsAs old.out new.out e → (((steps : ℕ) → command_of words ≡ Some (Run steps) → ⊥) → new.host ≡ old.host) → EndsAs words old new e
+wants_ends words old new e wants uncalled =
+    let memory : WantsMemory words old new = record { writes = ap (λ (p : SinkTold). p.written) wants.1; uncalled = uncalled } in
+    subst (λ (x : Ending). EndsAs words old new x) (sym wants.0) memory
+
+-- how the run of the files ends
+pub ran_ends : (words : List (List ℕ)) (steps : ℕ) (image : Contents) (input : List ℕ) (old new : Told) (e : Ending) → command_of words ≡ Some (Run steps) →
+    Holds old.files.folder single_in (command_word words 1) (Ok image) → Holds old.files.folder input_in (command_word words 2) (Ok input) →
+    RunEndsAs image input steps old.host new.host old.out new.out e → EndsAs words old new e
+ran_ends words steps image input old new e command first second (inr wants) = wants_ends words old new e wants (λ other. absurd (other steps command))
+ran_ends words steps image input old new e command first second (inl ran) =
+    let f = ran.0 in
+    let text = ran.1 in
+    let run = ran.2 in
+    let says = said_output (running steps) (Run steps) (made_by_run steps) old.files.folder words image input command first second in
+    put_ends words text old new (ending.Done f) e ran.3
+    (λ writes. record {
+      steps = steps;
+      command = command;
+      ran = λ telling. record {
+        steps = steps;
+        image = image;
+        input = input;
+        command = command;
+        image_file = first;
+        input_file = second;
+        runs = runs_written image steps input f new.host text old.out.written new.out.written (run.ran telling) run.console writes;
+      };
+      is_end = to_end old.files.folder words (says_output (output_of image steps input)) says;
+    })
+    (λ fails. record {
+      text = text;
+      is_text =
+          text_is (running steps) (Run steps) (made_by_run steps) old.files.folder words old.host text (says_output (output_of image steps input)) command says
+          (λ known. output_shown image steps input f new.host text (run.ran (known steps command refl)) run.console);
+      fails = fails;
+      uncalled = λ other. absurd (other steps command);
+    })
+
+handed_ends : (words : List (List ℕ)) (steps : ℕ) (image : Contents) (script : List ℕ) (old new : Told) (done : Ending) → command_of words ≡ Some (Hostile steps) → new.host ≡ old.host →
+    Holds old.files.folder image_in (command_word words 1) (Ok image) → Holds old.files.folder script_in (command_word words 2) (Ok script) →
+    IsHandedBack image script steps done → new.out.written ≡ wrote old.out.written (answered_text image steps script) → EndsAs words old new done
+handed_ends words steps image script old new (ending.Answered f heard) command host first second handed writes = record {
+  steps = steps;
+  command = command;
+  ran = record {
+    steps = steps;
+    image = image;
+    script = script;
+    command = command;
+    image_file = first;
+    script_file = second;
+    answers = handed;
+    writes = writes;
+  };
+  is_end =
+      to_end old.files.folder words (says_output (answered_text image steps script))
+      (said_output (answering steps) (Hostile steps) (made_by_script steps) old.files.folder words image script command first second);
+  host = host;
+}
+handed_ends words steps image script old new (ending.Done f) command host first second handed writes = absurd handed
+handed_ends words steps image script old new ending.Usage command host first second handed writes = absurd handed
+handed_ends words steps image script old new ending.Shown command host first second handed writes = absurd handed
+handed_ends words steps image script old new (ending.Refused r) command host first second handed writes = absurd handed
+handed_ends words steps image script old new ending.ReadFault command host first second handed writes = absurd handed
+handed_ends words steps image script old new ending.WriteFault command host first second handed writes = absurd handed
+handed_ends words steps image script old new ending.OutOfMemory command host first second handed writes = absurd handed
+
+-- how the run on the script of the files ends
+pub answered_ends : (words : List (List ℕ)) (steps : ℕ) (image : Contents) (script : List ℕ) (old new : Told) (e : Ending) → command_of words ≡ Some (Hostile steps) → new.host ≡ old.host →
+    Holds old.files.folder image_in (command_word words 1) (Ok image) → Holds old.files.folder script_in (command_word words 2) (Ok script) →
+    ScriptEndsAs image script steps old.out new.out e → EndsAs words old new e
+answered_ends words steps image script old new e command host first second (inr wants) = wants_ends words old new e wants (λ other. host)
+answered_ends words steps image script old new e command host first second (inl ran) =
+    let text = answered_text image steps script in
+    put_ends words text old new ran.0 e ran.2
+    (λ writes. handed_ends words steps image script old new ran.0 command host first second ran.1 writes)
+    (λ fails. record {
+      text = text;
+      is_text =
+          text_is (answering steps) (Hostile steps) (made_by_script steps) old.files.folder words old.host text (says_output text) command
+          (said_output (answering steps) (Hostile steps) (made_by_script steps) old.files.folder words image script command first second) (λ known. refl);
+      fails = fails;
+      uncalled = λ other. host;
+    })
+
+-- how a call ends that has nothing to run
+pub given_up : (m : Making) (c : Command) → IsMadeBy c m → (words : List (List ℕ)) (u : Unready) (old new : Told) (e : Ending) → command_of words ≡ Some c → new.host ≡ old.host →
+    Explains u (λ r. AreRefused m.parts old.files.folder (command_word words 1) (command_word words 2) r) (AreUnread m.parts (command_word words 1) (command_word words 2) old.files new.files) →
+    GivesUpAs u old.out new.out e → EndsAs words old new e
+given_up m c made words (unready.Refused r) old new e command host refusal ends =
+    let first = first_refused m c made old.files.folder words r command refusal in
+    put_ends words (line_of r) old new (ending.Refused r) e ends
+    (λ writes. record { first = first; writes = writes; host = host })
+    (λ fails. record {
+      text = line_of r;
+      is_text = text_is m c made old.files.folder words old.host (line_of r) (says_refused r) command first (λ known. refl);
+      fails = fails;
+      uncalled = λ other. host;
+    })
+given_up m c made words unready.ReadFault old new e command host unread ends =
+    let fails : FailsRead words old new = record {
+      rose = unread.rose;
+      absent = λ reliable. none_said m c made old.files.folder words command (unread.absent reliable);
+      writes = ap (λ (p : SinkTold). p.written) ends.1;
+      host = host;
+    } in
+    subst (λ (x : Ending). EndsAs words old new x) (sym ends.0) fails
+given_up m c made words unready.OutOfMemory old new e command host explains ends = wants_ends words old new e ends (λ other. host)
+
+-- how a call ends whose words are no command
+pub usage_ends : (words : List (List ℕ)) (old new : Told) (e : Ending) → command_of words ≡ None → new.host ≡ old.host → new.files ≡ old.files →
+    PutsAs ending.Usage usage old.out new.out e → EndsAs words old new e
+usage_ends words old new e none host files ends =
+    put_ends words usage old new ending.Usage e ends
+    (λ writes. record { outside = none; files = files; writes = writes; host = host })
+    (λ fails. record { text = usage; is_text = usage_text old.files.folder words old.host none; fails = fails; uncalled = λ other. host })
+
+-- how a call ends that shows a reading
+pub shown_ends : (words : List (List ℕ)) (text : List ℕ) (old new : Told) (e : Ending) → reading_of words ≡ Some text → new.host ≡ old.host → new.files ≡ old.files →
+    PutsAs ending.Shown text old.out new.out e → EndsAs words old new e
+shown_ends words text old new e reads host files ends =
+    put_ends words text old new ending.Shown e ends
+    (λ writes. record { text = text; reads = reads; files = files; writes = writes; host = host })
+    (λ fails. record { text = text; is_text = shown_text old.files.folder words old.host text reads; fails = fails; uncalled = λ other. host })
+
+-- the status of an end
+abbrev pub status_of : Ending → ℕ
+status_of (ending.Done f) = 0
+status_of (ending.Answered f heard) = 0
+status_of ending.Usage = 2
+status_of ending.Shown = 0
+status_of (ending.Refused r) = 3
+status_of ending.ReadFault = 4
+status_of ending.WriteFault = 5
+status_of ending.OutOfMemory = 6
+
+-- it ends as it is to end, or memory was wanting, where the sink has room for what is to be said
+abbrev pub EndsSo : Option Folder → List (List ℕ) → Hosting → SinkTold → ℕ → Type 0
+EndsSo folder words h out status = IfSome folder (λ f. (s : Said) → said f words ≡ Some s → IsKnown words h s → HasSpace out (length s.text) → (status ≡ s.status) ⊎ (status ≡ 6))
+
+end_so : (folder : Option Folder) (words : List (List ℕ)) (h : Hosting) (out : SinkTold) (status : ℕ) → IsToEnd folder words status → EndsSo folder words h out status
+end_so None words h out status is_end = tt
+end_so (Some f) words h out status is_end = λ s says known room. inl (sym is_end.2 ∙ ap (λ (x : Said). x.status) (same_Some _ _ (sym is_end.1 ∙ says)))
+
+absent_so : (folder : Option Folder) (words : List (List ℕ)) (h : Hosting) (out : SinkTold) (status : ℕ) → IfSome folder (λ f. said f words ≡ None) → EndsSo folder words h out status
+absent_so None words h out status none = tt
+absent_so (Some f) words h out status none = λ s says known room. let wrong : None ≡ Some s = sym none ∙ says in cc
+
+full_so : (folder : Option Folder) (words : List (List ℕ)) (h : Hosting) (text : List ℕ) (out new : SinkTold) (status : ℕ) → IsText folder words h text → FailsToPut text out new → EndsSo folder words h out status
+full_so None words h text out new status is_text fails = tt
+full_so (Some f) words h text out new status is_text fails = λ s says known room.
+    let inside = is_text.inside in
+    let same : inside.0 ≡ s = same_Some _ _ (sym inside.1 ∙ says) in
+    let whole : text ≡ s.text = inside.2 (subst (λ (x : Said). IsKnown words h x) (sym same) known) ∙ ap (λ (x : Said). x.text) same in
+    absurd (fails.full (subst (λ (t : List ℕ). HasSpace out (length t)) (sym whole) room))
+
+memory_so : (folder : Option Folder) (words : List (List ℕ)) (h : Hosting) (out : SinkTold) → EndsSo folder words h out 6
+memory_so None words h out = tt
+memory_so (Some f) words h out = λ s says known room. inr refl
+
+ends_so : (words : List (List ℕ)) (old new : Told) (e : Ending) → EndsAs words old new e → old.files.is_reliable ≡ true → EndsSo old.files.folder words old.host old.out (status_of e)
+ends_so words old new (ending.Done f) ends reliable = end_so old.files.folder words old.host old.out 0 ends.is_end
+ends_so words old new (ending.Answered f heard) ends reliable = end_so old.files.folder words old.host old.out 0 ends.is_end
+ends_so words old new ending.Usage ends reliable = end_so old.files.folder words old.host old.out 2 (usage_is old.files.folder words ends.outside)
+ends_so words old new ending.Shown ends reliable = end_so old.files.folder words old.host old.out 0 (shown_is old.files.folder words ends.text ends.reads)
+ends_so words old new (ending.Refused r) ends reliable = end_so old.files.folder words old.host old.out 3 (to_end old.files.folder words (says_refused r) ends.first)
+ends_so words old new ending.ReadFault ends reliable = absent_so old.files.folder words old.host old.out 4 (ends.absent reliable)
+ends_so words old new ending.WriteFault ends reliable = full_so old.files.folder words old.host ends.text old.out new.out 5 ends.is_text ends.fails
+ends_so words old new ending.OutOfMemory ends reliable = memory_so old.files.folder words old.host old.out
+
+-- over files that can't fail and a sink that has room
+pub certain : (words : List (List ℕ)) (old new : Told) (e : Ending) (status : ℕ) → EndsAs words old new e → status ≡ status_of e → old.files.is_reliable ≡ true →
+    EndsSo old.files.folder words old.host old.out status
+certain words old new e status ends is reliable =
+    subst (λ n. EndsSo old.files.folder words old.host old.out n) (sym is) (ends_so words old new e ends reliable)
+
+-- it ends as it is to end
+pub end_complete : (folder : Option Folder) (words : List (List ℕ)) (end status : ℕ) → IsToEnd folder words end → status ≡ end →
+    IfSome folder (λ f. (s : Said) → said f words ≡ Some s → (status ≡ s.status) ⊎ (status ≡ 6))
+end_complete None words end status is_end is = tt
+end_complete (Some f) words end status is_end is = λ s says. inl (is ∙ sym is_end.2 ∙ ap (λ (x : Said). x.status) (same_Some _ _ (sym is_end.1 ∙ says)))
+
+pub memory_complete : (folder : Option Folder) (words : List (List ℕ)) (status : ℕ) → status ≡ 6 →
+    IfSome folder (λ f. (s : Said) → said f words ≡ Some s → (status ≡ s.status) ⊎ (status ≡ 6))
+memory_complete None words status is = tt
+memory_complete (Some f) words status is = λ s says. inr is

@@ -1,0 +1,74 @@
+-- What the program is to say: a function of its words and its files.
+use Rattle.std.specs.Prelude.{◌≡◌, ℕ, List, Option, Some, None, Result, Ok, Err, IfSome, option_map, option_and_then}
+use Rattle.image_file.specs.Image.{Contents}
+use Rattle.hostile_host.specs.Answered.{run_on_words}
+use Rattle.trace_text.specs.Trace.{trace_text}
+use Rattle.plain_machine.specs.Plain.{rounds_machine}
+use Rattle.ghcb_cli.specs.declared.command.Command.{Command}
+use Rattle.ghcb_cli.specs.declared.command.Command.TheVariants.{Run, Hostile, ShowPage, ShowMsr, ShowInfo}
+use Rattle.ghcb_cli.specs.declared.text.Refused.{Refused}
+use Rattle.ghcb_cli.specs.Command.{command_of, reading_by, command_word}
+use Rattle.ghcb_cli.specs.Files.{Folder, Parts, run_parts, script_parts}
+use Rattle.ghcb_cli.specs.Text.{usage, line_of}
+
+-- its status, the refusal, and the whole text
+pub record Said : Type 0 where
+  pub status : ℕ
+  pub refused : Option Refused
+  pub text : List ℕ
+
+abbrev pub says_usage : Said
+says_usage = record { status = 2; refused = None; text = usage }
+
+abbrev pub says_refused : Refused → Said
+says_refused refused = record { status = 3; refused = Some refused; text = line_of refused }
+
+abbrev pub says_output : List ℕ → Said
+says_output text = record { status = 0; refused = None; text = text }
+
+-- the plain machine's output in the order of rounds
+abbrev pub output_of : Contents → ℕ → List ℕ → List ℕ
+output_of image steps input = (rounds_machine image steps input).devices.console
+
+-- the trace and the end of the run on a script's words
+abbrev pub answered_text : Contents → ℕ → List ℕ → List ℕ
+answered_text image steps words = let run = run_on_words image steps words in trace_text run.items run.value.end run.value.cpu.steps
+
+-- What a command makes of two files: what is in them, and the text of its run on both.
+pub record Making : Type 0 where
+  pub parts : Parts
+  pub text : Contents → List ℕ → List ℕ
+
+abbrev pub running : ℕ → Making
+running steps = record { parts = run_parts; text = λ image input. output_of image steps input }
+
+abbrev pub answering : ℕ → Making
+answering steps = record { parts = script_parts; text = λ image words. answered_text image steps words }
+
+abbrev pub said_over : Making → Contents → Result (List ℕ) Refused → Said
+said_over making image (Ok second) = says_output (making.text image second)
+said_over making image (Err refused) = says_refused refused
+
+abbrev pub said_with : Making → Option (List ℕ) → Result Contents Refused → Option Said
+said_with making second (Ok image) = option_map (λ bytes. said_over making image (making.parts.second bytes)) second
+said_with making second (Err refused) = Some (says_refused refused)
+
+abbrev pub said_of_files : Making → Option (List ℕ) → Option (List ℕ) → Option Said
+said_of_files making image second = option_and_then (λ bytes. said_with making second (making.parts.image bytes)) image
+
+abbrev pub said_by : Option (List ℕ) → Option (List ℕ) → List ℕ → Option Command → Option Said
+said_by image second digits (Some (Run steps)) = said_of_files (running steps) image second
+said_by image second digits (Some (Hostile steps)) = said_of_files (answering steps) image second
+said_by image second digits (Some ShowPage) = option_map (λ text. says_output text) (reading_by digits (Some ShowPage))
+said_by image second digits (Some (ShowMsr word)) = option_map (λ text. says_output text) (reading_by digits (Some (ShowMsr word)))
+said_by image second digits (Some (ShowInfo word)) = option_map (λ text. says_output text) (reading_by digits (Some (ShowInfo word)))
+said_by image second digits None = Some says_usage
+
+-- What the program is to say: of a run the words first, then the image's limit and form, then the limit and form of the input or
+-- the script, then the text of the run; of a reading its text. There is none where a file that is read is absent.
+abbrev pub said : Folder → List (List ℕ) → Option Said
+said folder words = said_by (folder (command_word words 1)) (folder (command_word words 2)) (command_word words 2) (command_of words)
+
+-- it is to end so
+abbrev pub IsToEnd : Option Folder → List (List ℕ) → ℕ → Type 0
+IsToEnd folder words status = IfSome folder (λ f. (s : Said) × (said f words ≡ Some s) × (s.status ≡ status))

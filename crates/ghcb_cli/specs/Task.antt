@@ -1,0 +1,23 @@
+-- A command with what its words hold.
+use Rattle.std.specs.Prelude.{◌≡◌, ℕ, List, Some}
+use Rattle.show_text.specs.Digits.{page_of_digits}
+use Rattle.ghcb_cli.specs.declared.command.Command.{Command}
+use Rattle.ghcb_cli.specs.declared.command.Command.TheVariants as command
+use Rattle.ghcb_cli.specs.declared.command.Task.{Task}
+use Rattle.ghcb_cli.specs.declared.command.Task.TheVariants as task
+
+-- the command alone
+abbrev pub command_in : Task → Command
+command_in (task.Run image input steps) = command.Run steps
+command_in (task.Hostile image script steps) = command.Hostile steps
+command_in (task.ShowPage page) = command.ShowPage
+command_in (task.ShowMsr word) = command.ShowMsr word
+command_in (task.ShowInfo word) = command.ShowInfo word
+
+-- it has what the second and the third word hold
+abbrev pub HasWords : List ℕ → List ℕ → Task → Type 0
+HasWords first second (task.Run image input steps) = (image.now ≡ first) × (input.now ≡ second)
+HasWords first second (task.Hostile image script steps) = (image.now ≡ first) × (script.now ≡ second)
+HasWords first second (task.ShowPage page) = page_of_digits second ≡ Some page
+HasWords first second (task.ShowMsr word) = Unit {0}
+HasWords first second (task.ShowInfo word) = Unit {0}

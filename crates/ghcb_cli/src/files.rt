@@ -1,0 +1,161 @@
+// The files that a command names, or why they can't be run.
+ghost use Rattle.std.specs.Prelude.{◌≡◌, ◌<◌, ◌^◌, IfOk, IfErr, Ok, Err};
+ghost use Rattle.run_io.specs.Outside.{AreRead, FailsToRead};
+ghost use Rattle.ghcb_cli.specs.Files.{Holds, AreRefused, AreUnread, limited, image_in, single_in, input_in, script_in, run_parts, script_parts};
+ghost use Rattle.ghcb_cli.specs.Unready.{unready_of, Explains};
+
+use crate::text::Refused;
+use image_file::{Image, ImageError};
+use run_io::{Files, ReadError, read_whole};
+use script_file::{ScriptError, read_script};
+use std::alloc::Global;
+
+/// The most bytes of an image file.
+const MOST_IMAGE: usize = 16_777_280;
+
+/// The most bytes of an input.
+const MOST_INPUT: usize = 16_777_216;
+
+/// The most bytes of a script.
+const MOST_SCRIPT: usize = 16_777_216;
+
+/// Why there is nothing to run.
+#[derive(Clone, Copy, Debug, PartialEq, Eq)]
+pub enum Unready {
+    Refused(Refused),
+    ReadFault,
+    OutOfMemory,
+}
+
+/// What a read that didn't come to its end means.
+fn unread(error: ReadError) -> Unready
+    ensures { result ≡ unready_of error }
+{
+    match error {
+        ReadError::Failed => Unready::ReadFault,
+        ReadError::OutOfMemory => Unready::OutOfMemory,
+    }
+}
+
+/// The bytes of a file, or why there are none; more than `most` bytes are refused so.
+fn read_limited<F: Files>(
+    alloc: Global,
+    files: &mut F,
+    name: &str,
+    most: usize,
+    refused: Refused,
+) -> Result<Vec<u8>, Unready>
+    requires limit { most < 2 ^ 32 }
+    ensures bytes { IfOk result (λ bytes.
+        Holds (F.told files.old).folder (limited most refused) name.now (Ok bytes.items)) }
+    ensures refused { IfErr result (λ e. Explains e
+        (λ r. Holds (F.told files.old).folder (limited most refused) name.now (Err r))
+        (FailsToRead name.now (F.told files.old) (F.told files.new))) }
+    ensures read { AreRead (F.told files.old) (F.told files.new) }
+{
+    let bytes = match read_whole(alloc, files, name, most) {
+        Ok(bytes) => bytes,
+        Err(error) => return Err(unread(error)),
+    };
+    if bytes.len() > most {
+        return Err(Unready::Refused(refused));
+    }
+    Ok(bytes)
+}
+
+/// The image in a file, or why there is none.
+fn image_of<F: Files>(alloc: Global, files: &mut F, name: &str) -> Result<Image, Unready>
+    ensures image { IfOk result (λ image. Holds (F.told files.old).folder image_in name.now (Ok image)) }
+    ensures refused { IfErr result (λ e. Explains e
+        (λ r. Holds (F.told files.old).folder image_in name.now (Err r))
+        (FailsToRead name.now (F.told files.old) (F.told files.new))) }
+    ensures read { AreRead (F.told files.old) (F.told files.new) }
+{
+    let bytes = read_limited(alloc, files, name, MOST_IMAGE, Refused::ImageLimit)?;
+    match Image::read(alloc, &bytes) {
+        Ok(image) => Ok(image),
+        Err(ImageError::Fault(fault)) => Err(Unready::Refused(Refused::Image(fault))),
+        Err(ImageError::OutOfMemory) => Err(Unready::OutOfMemory),
+    }
+}
+
+/// The image of one vCPU in a file, or why there is none.
+fn one_vcpu_image<F: Files>(alloc: Global, files: &mut F, name: &str) -> Result<Image, Unready>
+    ensures image { IfOk result (λ image. Holds (F.told files.old).folder single_in name.now (Ok image)) }
+    ensures refused { IfErr result (λ e. Explains e
+        (λ r. Holds (F.told files.old).folder single_in name.now (Err r))
+        (FailsToRead name.now (F.told files.old) (F.told files.new))) }
+    ensures read { AreRead (F.told files.old) (F.told files.new) }
+{
+    let image = image_of(alloc, files, name)?;
+    if image.vcpus() > 1 {
+        return Err(Unready::Refused(Refused::NotYet));
+    }
+    Ok(image)
+}
+
+/// The words of the script in a file, or why there are none.
+fn script_of<F: Files>(alloc: Global, files: &mut F, name: &str) -> Result<Vec<u64>, Unready>
+    ensures script { IfOk result (λ script. Holds (F.told files.old).folder script_in name.now (Ok script.items)) }
+    ensures refused { IfErr result (λ e. Explains e
+        (λ r. Holds (F.told files.old).folder script_in name.now (Err r))
+        (FailsToRead name.now (F.told files.old) (F.told files.new))) }
+    ensures read { AreRead (F.told files.old) (F.told files.new) }
+{
+    let bytes = read_limited(alloc, files, name, MOST_SCRIPT, Refused::ScriptLimit)?;
+    match read_script(alloc, &bytes) {
+        Ok(words) => Ok(words),
+        Err(ScriptError::Line(line)) => Err(Unready::Refused(Refused::ScriptLine(line))),
+        Err(ScriptError::OutOfMemory) => Err(Unready::OutOfMemory),
+    }
+}
+
+/// What a run over the host is made of.
+#[derive(Drop)]
+pub struct RunFiles {
+    pub image: Image,
+    pub input: Vec<u8>,
+}
+
+/// The image and the input in the files of these names, or why they can't be run.
+pub fn run_files_of<F: Files>(
+    alloc: Global,
+    files: &mut F,
+    image: &str,
+    input: &str,
+) -> Result<RunFiles, Unready>
+    ensures image { IfOk result (λ r. Holds (F.told files.old).folder single_in image.now (Ok r.image)) }
+    ensures input { IfOk result (λ r. Holds (F.told files.old).folder input_in input.now (Ok r.input.items)) }
+    ensures refused { IfErr result (λ e. Explains e
+        (λ r. AreRefused run_parts (F.told files.old).folder image.now input.now r)
+        (AreUnread run_parts image.now input.now (F.told files.old) (F.told files.new))) }
+{
+    let image = one_vcpu_image(alloc, files, image)?;
+    let input = read_limited(alloc, files, input, MOST_INPUT, Refused::InputLimit)?;
+    Ok(RunFiles { image, input })
+}
+
+/// What a run on the words of a script is made of.
+#[derive(Drop)]
+pub struct ScriptFiles {
+    pub image: Image,
+    pub script: Vec<u64>,
+}
+
+/// The image and the script in the files of these names, or why there is no run on them.
+pub fn script_files_of<F: Files>(
+    alloc: Global,
+    files: &mut F,
+    image: &str,
+    script: &str,
+) -> Result<ScriptFiles, Unready>
+    ensures image { IfOk result (λ s. Holds (F.told files.old).folder image_in image.now (Ok s.image)) }
+    ensures script { IfOk result (λ s. Holds (F.told files.old).folder script_in script.now (Ok s.script.items)) }
+    ensures refused { IfErr result (λ e. Explains e
+        (λ r. AreRefused script_parts (F.told files.old).folder image.now script.now r)
+        (AreUnread script_parts image.now script.now (F.told files.old) (F.told files.new))) }
+{
+    let image = image_of(alloc, files, image)?;
+    let script = script_of(alloc, files, script)?;
+    Ok(ScriptFiles { image, script })
+}

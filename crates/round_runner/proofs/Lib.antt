@@ -1,0 +1,4 @@
+pub mod Visiting
+pub mod Meeting
+pub mod Seating
+pub mod Starting

@@ -1,0 +1,3 @@
+pub mod Standing
+pub mod Ran
+pub mod Started
