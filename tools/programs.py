@@ -1,22 +1,29 @@
-"""The two programs that are compared: `ghcb_run`, and an independent model of it.
+"""Programs that are compared, and how: a program of this repository, and an independent model of it.
 
-GHCB_RUN names the first, else it is the one that `rt` builds; GHCB_MODEL names the second. Where one is
-missing, the script that asks for it says that it is skipped, and ends with status 0.
+GHCB_RUN names `ghcb_run`, else it is the one that `rt` builds; GHCB_MODEL names the model. Where one is missing,
+the script that asks for it says that it is skipped, and ends with status 0.
 """
 import os
 import shlex
+import shutil
 import subprocess
 import sys
+import tempfile
+from collections import Counter
+from concurrent.futures import ThreadPoolExecutor
 from pathlib import Path
 from typing import NamedTuple
 
 TOP = Path(__file__).resolve().parent.parent
 SCRIPT = Path(sys.argv[0]).name
-BUILT = TOP / "crates/ghcb_run/out/ghcb_run"
-# The model as far as this program goes.
+# The model answers for later versions of `ghcb_run` too. Its variable ORACLE_STAGE and its words --proto 1 say how
+# far it is to go: stage 5 of version 1 of the protocol has one vCPU, port I/O of registers, CPUID, MSRs, time-stamp
+# counters and faults, and neither string I/O nor MMIO.
 MODEL_VARIABLES = {"ORACLE_STAGE": "5"}
 MODEL_WORDS = ("--proto", "1")
 SECONDS = 300
+WORKERS = 2
+MOST_DIFFERENCES = 5
 
 
 class Program(NamedTuple):
@@ -41,6 +48,13 @@ class Program(NamedTuple):
             return f"none after {SECONDS} seconds", b""
         return done.returncode, done.stdout
 
+    def output(self, *words, given=b""):
+        """What it prints, where its status is 0; else this ends."""
+        status, printed = self.run(*words, given=given)
+        if status != 0:
+            sys.exit(f"{SCRIPT}: status {status} of {self.line(*words)}")
+        return printed
+
     def line(self, *words):
         """The same call as a line for the shell."""
         variables = [f"{name}={value}" for name, value in self.variables.items()]
@@ -56,11 +70,33 @@ def is_program(path):
     return path.is_file() and os.access(path, os.X_OK)
 
 
-def program():
-    path = Path(os.environ.get("GHCB_RUN", BUILT)).absolute()
+def path_of(crate):
+    """The program of a crate, as `rt run` builds it there; `ghcb_run` may be another by GHCB_RUN."""
+    other = os.environ.get("GHCB_RUN") if crate == "ghcb_run" else None
+    return Path(other).absolute() if other else TOP / f"crates/{crate}/out/{crate}"
+
+
+def program(crate="ghcb_run"):
+    path = path_of(crate)
     if not is_program(path):
-        skip(f"{path} is no program; rt run in crates/ghcb_run builds it, or GHCB_RUN names another")
+        named = ", or GHCB_RUN names another" if crate == "ghcb_run" else ""
+        skip(f"{path} is no program; rt run in crates/{crate} builds it{named}")
     return Program(path, {}, ())
+
+
+def built(crate):
+    """The program of a crate, which is built first."""
+    made = subprocess.run(
+        ["rt", "run"],
+        cwd=TOP / "crates" / crate,
+        stdin=subprocess.DEVNULL,
+        stdout=subprocess.PIPE,
+        stderr=subprocess.STDOUT,
+        text=True,
+    )
+    if made.returncode != 0:
+        sys.exit(made.stdout)
+    return program(crate)
 
 
 def model():
@@ -68,3 +104,69 @@ def model():
     if not is_program(path):
         skip("GHCB_MODEL names no program")
     return Program(path, MODEL_VARIABLES, MODEL_WORDS)
+
+
+def seed_and_count(documentation, count):
+    """The words SEED and COUNT of the command line, where they are given. Other words get the script's text."""
+    words = sys.argv[1:] + ["1", str(count)][len(sys.argv) - 1 :]
+    if len(words) != 2 or not all(word.isdecimal() for word in words):
+        sys.exit(documentation)
+    if int(words[1]) == 0:
+        sys.exit(f"{SCRIPT}: nothing to compare")
+    return int(words[0]), int(words[1])
+
+
+class Outcome(NamedTuple):
+    """What came of one job: how many of each thing there were, and a text of each difference."""
+
+    counts: dict
+    differences: list
+
+
+def difference(ours, model, words, got, want):
+    """The text of two runs with different statuses or outputs, with the lines that run them again."""
+    ends = "status {} and {} bytes, the model {} and {}".format(got[0], len(got[1]), want[0], len(want[1]))
+    return f"{ends}\n    again: {ours.line(*words)}\n    model: {model.line(*words)}"
+
+
+def outcomes_of(compare, jobs):
+    """The outcomes of the jobs, up to the last difference that is looked for."""
+    differ = 0
+    with ThreadPoolExecutor(WORKERS) as pool:
+        for outcome in pool.map(lambda job: compare(*job), jobs):
+            yield outcome
+            for text in outcome.differences[: MOST_DIFFERENCES - differ]:
+                print(f"{SCRIPT}: different: {text}", flush=True)
+            differ += len(outcome.differences)
+            if differ >= MOST_DIFFERENCES:
+                pool.shutdown(cancel_futures=True)
+                return
+
+
+def compare_all(compare, seed, jobs):
+    """Does the jobs, prints what there was and what differs, and ends with status 1 where anything does.
+
+    `compare` gets an empty folder and what the job has, and returns the outcome. The folder is kept where anything
+    differs.
+    """
+    folder = Path(tempfile.mkdtemp(prefix=f"{SCRIPT}-"))
+    counts, differ = Counter(), 0
+    for outcome in outcomes_of(lambda *job: compare(folder, *job), jobs):
+        counts.update(outcome.counts)
+        differ += len(outcome.differences)
+    if not differ:
+        shutil.rmtree(folder)
+    numbers = ", ".join(f"{number} {name}" for name, number in counts.items())
+    print(f"{SCRIPT}: from seed {seed}: {numbers}; {f'{differ} differ' if differ else 'no difference'}")
+    sys.exit(differ > 0)
+
+
+def compare_lines(what, given, got, want):
+    """Compares the lines of two answers to the same lines, and ends with status 1 at the first that differs."""
+    rows = zip(given.splitlines(), got.splitlines(), want.splitlines())
+    for line, ours, other in rows:
+        if ours != other:
+            sys.exit(f"{SCRIPT}: {what}: different: {line.decode()}: {ours.decode()}, and not {other.decode()}")
+    if got != want:
+        sys.exit(f"{SCRIPT}: {what}: different: {len(got)} and {len(want)} bytes")
+    print(f"{SCRIPT}: {what}: no difference")

@@ -1,6 +1,6 @@
-"""Images that tell: at an address of the code stands a jump to a routine that prints the state of the vCPU.
+"""Images that probe: at an address of the code stands a jump to a routine that prints the state of the vCPU.
 
-A run writes what its guest puts out, so of a guest that puts nothing out it shows nothing. A telling image shows
+A run writes what its guest puts out, so of a guest that puts nothing out it shows nothing. A probing image shows
 what the instructions before the address did.
 """
 import struct
@@ -57,7 +57,7 @@ def routine(place, ram):
     return b"".join(stores + flags + prints)
 
 
-def telling_image(image, at):
+def probing_image(image, at):
     """The image with the jump at the address `at`, or None where the jump or the routine has no room.
 
     The routine takes the place of the NOPs at the end of the code, and lengthens the code where they don't

@@ -1,0 +1,31 @@
+"""The guests of examples/: where each is, and the words that run it."""
+from pathlib import Path
+
+EXAMPLES = Path(__file__).resolve().parent.parent / "examples"
+HOSTILE = EXAMPLES / "hostile"
+NO_INPUT = EXAMPLES / "hello/empty"
+STEPS = 2097152
+HOSTILE_STEPS = 65536
+
+
+def folders():
+    """Each example's folder, those against hosts that nobody trusts last."""
+    for path in (EXAMPLES, HOSTILE):
+        yield from sorted(folder for folder in path.iterdir() if folder.is_dir() and folder != HOSTILE)
+
+
+def image(folder):
+    return folder / f"{folder.name}.img"
+
+
+def words(folder):
+    """The words of `ghcb_run` that run the example: over its input or none, or against its script."""
+    if folder.parent == HOSTILE:
+        return "hostile", image(folder), folder / "script", HOSTILE_STEPS
+    given = folder / "input"
+    return "run", image(folder), given if given.exists() else NO_INPUT, STEPS
+
+
+def printed(folder):
+    """The file that has what is to be printed."""
+    return folder / ("trace" if folder.parent == HOSTILE else "stdout")
