@@ -38,6 +38,19 @@ high_sign p a h = record { top = grind (arith, nat_tests); below = grind (arith,
 sign_cases : (p a : ℕ) → (a < p) ⊎ (p ≤ a)
 sign_cases p a = grind arith
 
+-- the top bit of v decides whether v itself is out of range, and whether 2p less is
+low_decides : (p v : ℕ) → nat_le p v ≡ is_out p (pos v)
+low_decides p v = elim (sign_cases p v) [
+  | inl lo ↦ rw (low_sign p v lo).top (sym (is_in p (pos v) (grind (arith, ints)) (grind (arith, ints))))
+  | inr hi ↦ rw (high_sign p v hi).top (sym (is_high p (pos v) (grind (arith, ints)) (grind (arith, ints))))
+]
+
+high_decides : (p v : ℕ) → v < p + p → not (nat_le p v) ≡ is_out p (pos v -ℤ pos (p + p))
+high_decides p v h = elim (sign_cases p v) [
+  | inl lo ↦ rw (low_sign p v lo).top (sym (is_low p (pos v -ℤ pos (p + p)) (grind (arith, ints))))
+  | inr hi ↦ rw (high_sign p v hi).top (sym (is_in p (pos v -ℤ pos (p + p)) (grind (arith, ints)) (grind (arith, ints))))
+]
+
 -- the value of a sum or a difference, and the same modulo 2p
 abbrev IsModulo : ℕ → ℕ → ℕ → Type 0
 IsModulo p v s = (v ≡ s) ⊎ (v + (p + p) ≡ s)
@@ -48,32 +61,18 @@ sum_signs p a b v = not (differ (nat_le p a) (nat_le p b)) && differ (nat_le p a
 abbrev SumDecides : ℕ → ℕ → ℕ → ℕ → ℕ → Type 0
 SumDecides p a b c v = sum_signs p a b v ≡ is_out p (with_sign p a +ℤ with_sign p b +ℤ pos c)
 
-sum_low_low : (p a b c v : ℕ) → a < p → b < p → c ≤ 1 → v ≡ a + b + c → SumDecides p a b c v
-sum_low_low p a b c v ha hb hc e =
+sum_low_low : (p a b c v : ℕ) → a < p → b < p → v ≡ a + b + c → SumDecides p a b c v
+sum_low_low p a b c v ha hb e =
     let sa = low_sign p a ha in
     let sb = low_sign p b hb in
-    elim (sign_cases p v) [
-      | inl lo ↦
-          let sv = low_sign p v lo in
-          rw (sa.top, sb.top, sv.top, sa.below, sb.below) (sym (is_in p (pos a +ℤ pos b +ℤ pos c) (grind (arith, ints)) (grind (arith, ints))))
-      | inr hi ↦
-          let sv = high_sign p v hi in
-          rw (sa.top, sb.top, sv.top, sa.below, sb.below) (sym (is_high p (pos a +ℤ pos b +ℤ pos c) (grind (arith, ints)) (grind (arith, ints))))
-    ]
+    rw (sa.top, sb.top, sa.below, sb.below, ← e) (low_decides p v)
 
-sum_high_high : (p a b c v : ℕ) → p ≤ a → p ≤ b → c ≤ 1 → v < p + p → v + (p + p) ≡ a + b + c → SumDecides p a b c v
-sum_high_high p a b c v ha hb hc hv e =
+sum_high_high : (p a b c v : ℕ) → p ≤ a → p ≤ b → v < p + p → v + (p + p) ≡ a + b + c → SumDecides p a b c v
+sum_high_high p a b c v ha hb hv e =
     let sa = high_sign p a ha in
     let sb = high_sign p b hb in
-    let z = pos a -ℤ pos (p + p) +ℤ (pos b -ℤ pos (p + p)) +ℤ pos c in
-    elim (sign_cases p v) [
-      | inl lo ↦
-          let sv = low_sign p v lo in
-          rw (sa.top, sb.top, sv.top, sa.below, sb.below) (sym (is_low p z (grind (arith, ints))))
-      | inr hi ↦
-          let sv = high_sign p v hi in
-          rw (sa.top, sb.top, sv.top, sa.below, sb.below) (sym (is_in p z (grind (arith, ints)) (grind (arith, ints))))
-    ]
+    let is : pos a -ℤ pos (p + p) +ℤ (pos b -ℤ pos (p + p)) +ℤ pos c ≡ pos v -ℤ pos (p + p) = omega (arith, ints) in
+    rw (sa.top, sb.top, sa.below, sb.below, is) (high_decides p v hv)
 
 sum_low_high : (p a b c v : ℕ) → a < p → p ≤ b → b < p + p → c ≤ 1 → SumDecides p a b c v
 sum_low_high p a b c v ha hb kb hc =
@@ -90,12 +89,12 @@ sum_high_low p a b c v ha ka hb hc =
 sum_decides : (p a b c v : ℕ) → a < p + p → b < p + p → c ≤ 1 → v < p + p → IsModulo p v (a + b + c) → SumDecides p a b c v
 sum_decides p a b c v ka kb hc kv is = elim (sign_cases p a) [
   | inl a_low ↦ elim (sign_cases p b) [
-    | inl b_low ↦ elim is [ inl e ↦ sum_low_low p a b c v a_low b_low hc e | inr e ↦ absurd (omega arith) ]
+    | inl b_low ↦ elim is [ inl e ↦ sum_low_low p a b c v a_low b_low e | inr e ↦ absurd (omega arith) ]
     | inr b_high ↦ sum_low_high p a b c v a_low b_high kb hc
   ]
   | inr a_high ↦ elim (sign_cases p b) [
     | inl b_low ↦ sum_high_low p a b c v a_high ka b_low hc
-    | inr b_high ↦ elim is [ inl e ↦ absurd (omega arith) | inr e ↦ sum_high_high p a b c v a_high b_high hc kv e ]
+    | inr b_high ↦ elim is [ inl e ↦ absurd (omega arith) | inr e ↦ sum_high_high p a b c v a_high b_high kv e ]
   ]
 ]
 
@@ -118,43 +117,29 @@ difference_high_high p a b c v ha ka hb kb hc =
     let z = pos a -ℤ pos (p + p) -ℤ (pos b -ℤ pos (p + p)) -ℤ pos c in
     rw (sa.top, sb.top, sa.below, sb.below) (sym (is_in p z (grind (arith, ints)) (grind (arith, ints))))
 
-difference_low_high : (p a b c v : ℕ) → a < p → p ≤ b → b < p + p → c ≤ 1 → v + b + c ≡ a + (p + p) → DifferenceDecides p a b c v
-difference_low_high p a b c v ha hb kb hc e =
+difference_low_high : (p a b c v : ℕ) → a < p → p ≤ b → v + b + c ≡ a + (p + p) → DifferenceDecides p a b c v
+difference_low_high p a b c v ha hb e =
     let sa = low_sign p a ha in
     let sb = high_sign p b hb in
-    let z = pos a -ℤ (pos b -ℤ pos (p + p)) -ℤ pos c in
-    elim (sign_cases p v) [
-      | inl lo ↦
-          let sv = low_sign p v lo in
-          rw (sa.top, sb.top, sv.top, sa.below, sb.below) (sym (is_in p z (grind (arith, ints)) (grind (arith, ints))))
-      | inr hi ↦
-          let sv = high_sign p v hi in
-          rw (sa.top, sb.top, sv.top, sa.below, sb.below) (sym (is_high p z (grind (arith, ints)) (grind (arith, ints))))
-    ]
+    let is : pos a -ℤ (pos b -ℤ pos (p + p)) -ℤ pos c ≡ pos v = omega (arith, ints) in
+    rw (sa.top, sb.top, sa.below, sb.below, is) (low_decides p v)
 
-difference_high_low : (p a b c v : ℕ) → p ≤ a → a < p + p → b < p → c ≤ 1 → v + b + c ≡ a → DifferenceDecides p a b c v
-difference_high_low p a b c v ha ka hb hc e =
+difference_high_low : (p a b c v : ℕ) → p ≤ a → b < p → v < p + p → v + b + c ≡ a → DifferenceDecides p a b c v
+difference_high_low p a b c v ha hb hv e =
     let sa = high_sign p a ha in
     let sb = low_sign p b hb in
-    let z = pos a -ℤ pos (p + p) -ℤ pos b -ℤ pos c in
-    elim (sign_cases p v) [
-      | inl lo ↦
-          let sv = low_sign p v lo in
-          rw (sa.top, sb.top, sv.top, sa.below, sb.below) (sym (is_low p z (grind (arith, ints))))
-      | inr hi ↦
-          let sv = high_sign p v hi in
-          rw (sa.top, sb.top, sv.top, sa.below, sb.below) (sym (is_in p z (grind (arith, ints)) (grind (arith, ints))))
-    ]
+    let is : pos a -ℤ pos (p + p) -ℤ pos b -ℤ pos c ≡ pos v -ℤ pos (p + p) = omega (arith, ints) in
+    rw (sa.top, sb.top, sa.below, sb.below, is) (high_decides p v hv)
 
 difference_decides : (p a b c v : ℕ) → a < p + p → b < p + p → c ≤ 1 → v < p + p
     → (v + b + c ≡ a) ⊎ (v + b + c ≡ a + (p + p)) → DifferenceDecides p a b c v
 difference_decides p a b c v ka kb hc kv is = elim (sign_cases p a) [
   | inl a_low ↦ elim (sign_cases p b) [
     | inl b_low ↦ difference_low_low p a b c v a_low b_low hc
-    | inr b_high ↦ elim is [ inl e ↦ absurd (omega arith) | inr e ↦ difference_low_high p a b c v a_low b_high kb hc e ]
+    | inr b_high ↦ elim is [ inl e ↦ absurd (omega arith) | inr e ↦ difference_low_high p a b c v a_low b_high e ]
   ]
   | inr a_high ↦ elim (sign_cases p b) [
-    | inl b_low ↦ elim is [ inl e ↦ difference_high_low p a b c v a_high ka b_low hc e | inr e ↦ absurd (omega arith) ]
+    | inl b_low ↦ elim is [ inl e ↦ difference_high_low p a b c v a_high b_low kv e | inr e ↦ absurd (omega arith) ]
     | inr b_high ↦ difference_high_high p a b c v a_high ka b_high kb hc
   ]
 ]

@@ -1,5 +1,5 @@
 // The decoder: the first 15 bytes, and what their reading says of all bytes.
-ghost use Rattle.std.specs.Prelude.{◌≡◌, ◌≤◌, ◌<◌, ◌↔◌, List, ℕ, take, length, IfOk, OnOk, Ok, Err};
+ghost use Rattle.std.specs.Prelude.{◌≡◌, ◌<◌, ◌↔◌, take, length, IfOk, OnOk, Ok, Err};
 ghost use Rattle.x86_base.specs.declared.insn.Insn.{Insn};
 ghost use Rattle.x86_base.specs.Spelling.{Begins};
 ghost use Rattle.insn_decode.specs.Refusals.{IsTooLong, IsShort, SpellsNothing};

@@ -1,4 +1,4 @@
-ghost use Rattle.std.specs.Prelude.{◌≡◌, ⊤, Some, None, length, replicate, slice_index};
+ghost use Rattle.std.specs.Prelude.{◌≡◌, ⊤, None, length, slice_index};
 ghost use Rattle.page_words.specs.Told.{blank, keeping};
 
 use crate::{Page, Word};

@@ -1,5 +1,4 @@
 ghost use Rattle.std.specs.Prelude.{◌≡◌, ◌+◌, ◌*◌, ◌<◌, ◌≤◌, ◌++◌, length, slice_index};
-ghost use Rattle.ghcb_layout.specs.Bitmap.{has_bit};
 ghost use Rattle.show_text.specs.Page.{page_text as text_of, field_in, value_in, word_name, word_line, valid_line, bitmap_in, protocol_lines};
 
 use crate::Text;

@@ -1,5 +1,5 @@
 // The flags (APM volume 1, section 3.1.4).
-ghost use Rattle.std.specs.Prelude.{◌≡◌, ◌<◌, ◌^◌, if◌then◌else◌};
+ghost use Rattle.std.specs.Prelude.{◌≡◌, ◌<◌, if◌then◌else◌};
 ghost use Rattle.x86_base.specs.FlagsWord.{bit_at, flags_of, flags_word};
 
 /// The carry, parity, zero, sign, direction and overflow flags.
