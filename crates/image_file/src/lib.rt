@@ -17,6 +17,7 @@ mod rules;
 pub use fault::{ImageError, ImageFault};
 pub use header::MOST_VCPUS;
 pub use image::Image;
+pub use number::read_number;
 pub use ram::{OutOfRam, Ram, RamFault};
 
 #[cfg(test)]

@@ -3,9 +3,9 @@
 //! Each has one virtual processor with one page of RAM, a code that starts at address 0, and no data.
 #![tactic(auto)]
 
-ghost use Rattle.std.specs.Prelude.{◌≡◌, Ok, IfOk};
+ghost use Rattle.std.specs.Prelude.{◌≡◌, Ok, IfOk, IfErr};
 ghost use Rattle.image_file.specs.Image.{image_of};
-ghost use Rattle.image_samples.specs.Sample.{sample_of};
+ghost use Rattle.image_samples.specs.Sample.{IsFaultOf, sample_of};
 
 use image_file::{Image, ImageError};
 use std::alloc::{AllocError as OutOfMemory, Global};
@@ -25,9 +25,11 @@ pub fn sample_file(alloc: Global, code: &[u8], ud: u32, gp: u32) -> Result<Vec<u
     Ok(file)
 }
 
-/// The image that [`sample_file`] holds.
+/// The image that [`sample_file`] holds. `Fault` comes only where that file breaks a rule of the format,
+/// with the first one.
 pub fn sample_image(alloc: Global, code: &[u8], ud: u32, gp: u32) -> Result<Image, ImageError>
     ensures image { IfOk result (λ image. image_of (sample_of code.now ud gp) ≡ Ok image) }
+    ensures fault { IfErr result (IsFaultOf (image_of (sample_of code.now ud gp))) }
 {
     Image::read(alloc, &sample_file(alloc, code, ud, gp)?)
 }
