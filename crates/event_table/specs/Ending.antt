@@ -12,5 +12,5 @@ IsOwnEnd _ = Unit {0}
 -- the vCPU goes on, or stops by an end of its own; nothing more is asked
 abbrev pub IsOver : Stepped → Type 0
 IsOver (Moved v) = Unit {0}
-IsOver (Exits access v) = ⊥
+IsOver (Exits event v) = ⊥
 IsOver (Stops end v) = IsOwnEnd end

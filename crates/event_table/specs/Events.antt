@@ -1,5 +1,5 @@
 -- The instructions that exit to the host, read off the event table: what the host sees of registers, and where the results go.
-use Rattle.std.specs.Prelude.{ℕ, ◌%◌, ◌^◌, Bool, true, false, if◌then◌else◌, List, [], ◌∷◌, Option, None, Some}
+use Rattle.std.specs.Prelude.{ℕ, ◌%◌, ◌^◌, Bool, if◌then◌else◌, List, [], ◌∷◌, Option, None, Some}
 use Rattle.x86_base.specs.declared.insn.Insn.{Insn}
 use Rattle.x86_base.specs.declared.insn.Operand.{Operand}
 use Rattle.x86_base.specs.declared.insn.Operand.TheVariants.{Imm}
@@ -8,18 +8,21 @@ use Rattle.x86_base.specs.declared.op.Op.TheVariants as op
 use Rattle.x86_base.specs.declared.reg.Reg.{Reg}
 use Rattle.x86_base.specs.declared.reg.Reg.TheVariants.{Rax, Rcx, Rdx, Rbx}
 use Rattle.x86_base.specs.declared.reg.Width.{Width}
-use Rattle.x86_base.specs.declared.reg.Width.TheVariants.{B8, B16, B64}
-use Rattle.event_table.specs.declared.access.Access.{Access}
+use Rattle.x86_base.specs.declared.reg.Width.TheVariants.{B16, B64}
+use Rattle.x86_base.specs.Widths.{size_of}
 use Rattle.event_table.specs.declared.access.Values.{Values}
+use Rattle.event_table.specs.declared.event.Event.{Event}
+use Rattle.event_table.specs.declared.outcome.Reply.{Reply}
 use Rattle.event_table.specs.declared.end.End.TheVariants.{Undecoded}
 use Rattle.event_table.specs.declared.places.Place.{Place}
 use Rattle.event_table.specs.declared.places.Place.TheVariants.{Fixed, Low}
 use Rattle.event_table.specs.declared.row.Kind.{Kind}
 use Rattle.event_table.specs.declared.row.Kind.TheVariants as kind
 use Rattle.event_table.specs.declared.row.Row.{Row}
+use Rattle.event_table.specs.Elements.{is_string, port_width, string_of}
 use Rattle.event_table.specs.Places.{Vcpu, Number, number}
-use Rattle.event_table.specs.Plan.{Plan, Ends, Looks, Move, Named, Asks, Setting, Stepped, access_asked, goes, onward, step_answered, setting, with_moves}
-use Rattle.event_table.specs.Rows.{event_row, kind_of, access_of, registers}
+use Rattle.event_table.specs.Plan.{Plan, Ends, Looks, Move, Named, Asks, Setting, Stepped, apart, event_asked, goes, onward, reply_with, step_answered, setting, with_moves}
+use Rattle.event_table.specs.Rows.{event_by, event_row, kind_of_event, registers}
 
 -- the port that an operand names: a number of the instruction, or DX
 abbrev pub port_of : Operand → Place
@@ -31,16 +34,10 @@ port_at op.Out i = port_of i.dst
 port_at op.In i = port_of i.src
 port_at _ i = Fixed 0
 
--- the bytes of port I/O: it has no width of 64 bits (APM volume 3, IN and OUT)
-abbrev pub io_size : Width → ℕ
-io_size B8 = 1
-io_size B16 = 2
-io_size _ = 4
-
--- the event of an operation, with the port where it has one; the others exit for nothing, and string I/O for nothing yet
+-- the event of an operation, with the port where it has one; the others exit for nothing, or are string I/O
 abbrev pub kind_at : Op → Width → ℕ → Option Kind
-kind_at op.Out width port = Some (kind.Out port (io_size width))
-kind_at op.In width port = Some (kind.In port (io_size width))
+kind_at op.Out width port = Some (kind.Out port (size_of (port_width width)))
+kind_at op.In width port = Some (kind.In port (size_of (port_width width)))
 kind_at op.Cpuid width port = Some kind.Cpuid
 kind_at op.Rdmsr width port = Some kind.Rdmsr
 kind_at op.Wrmsr width port = Some kind.Wrmsr
@@ -65,41 +62,44 @@ results_to r values =
     (place_if r.results.a Rax r.width, Number values.a) ∷ (place_if r.results.c Rcx r.width, Number values.c)
     ∷ (place_if r.results.d Rdx r.width, Number values.d) ∷ (place_if r.results.b Rbx r.width, Number values.b) ∷ []
 
--- What an event shows of registers, the access that it asks, and where the results go.
+-- What an event shows of registers, what it asks, and where the results go.
 abbrev pub event_of : Kind → Setting → Plan
 event_of k s =
     Looks Named (shown_places (event_row k)) (λ seen.
-    Asks (access_of k (registers (number seen 0) (number seen 1) (number seen 2))) (λ values.
-    goes (with_moves (results_to (event_row k) values) (onward s))))
+    Asks (event_by k (registers (number seen 0) (number seen 1) (number seen 2)) []) (λ reply.
+    goes (with_moves (results_to (event_row k) reply.values) (onward s))))
 
 abbrev pub event_or : Plan → Option Kind → Setting → Plan
 event_or private (Some k) s = event_of k s
 event_or private None s = private
 
+-- an instruction whose event has its data in registers
+abbrev pub registers_plan : Insn → Setting → Plan → Plan
+registers_plan i s private = Looks Named (port_at i.op i ∷ []) (λ seen. event_or private (kind_at i.op i.width (number seen 0)) s)
+
 -- an instruction's plan, where `private` is that of one that exits for nothing
 abbrev pub event_plan : Insn → Setting → Plan → Plan
-event_plan i s private = Looks Named (port_at i.op i ∷ []) (λ seen. event_or private (kind_at i.op i.width (number seen 0)) s)
+event_plan i s private = if is_string i.op then string_of i s else registers_plan i s private
 
 -- the plan of an instruction that exits; one that doesn't is no event
 abbrev pub exit_of : Insn → Setting → Plan
 exit_of i s = event_plan i s (Ends Undecoded)
 
--- the access that an instruction asks at a vCPU, and how it goes on with the results
-abbrev pub asked_by : Insn → Vcpu → Option Access
-asked_by i v = access_asked v (exit_of i (setting v i.len))
+-- the event that an instruction asks at a vCPU, and how it goes on with the reply
+abbrev pub asked_by : Insn → Vcpu → Option Event
+asked_by i v = event_asked v (exit_of i (setting v i.len))
 
-abbrev pub placed_by : Values → Insn → Vcpu → Stepped
-placed_by values i v = step_answered values v (exit_of i (setting v i.len))
+abbrev pub placed_by : Reply → Insn → Vcpu → Stepped
+placed_by reply i v = step_answered reply v (exit_of i (setting v i.len))
 
--- string I/O, for which nothing is shown yet
-abbrev pub comes_later_at : Op → Bool
-comes_later_at op.Ins = true
-comes_later_at op.Outs = true
-comes_later_at _ = false
+-- The same, where each element of string I/O is an access of its own: the access that is asked next, as an event, and
+-- how it goes on with the results.
+abbrev pub asked_apart : Insn → Vcpu → Option Event
+asked_apart i v = event_asked v (exit_of i (apart v i.len))
 
-abbrev pub comes_later : Insn → Bool
-comes_later i = comes_later_at i.op
+abbrev pub placed_apart : Values → Insn → Vcpu → Stepped
+placed_apart values i v = step_answered (reply_with values) v (exit_of i (apart v i.len))
 
--- the exit code with which #VC is raised for an access (AMD 56421, section 2.6; APM volume 2, appendix C)
-abbrev pub vc_code : Access → ℕ
-vc_code access = (event_row (kind_of access)).code
+-- the exit code with which #VC is raised for an event (AMD 56421, section 2.6; APM volume 2, appendix C)
+abbrev pub vc_code : Event → ℕ
+vc_code event = (event_row (kind_of_event event)).code

@@ -1,20 +1,27 @@
 -- Which events there are.
-use Rattle.std.specs.Prelude.{◌≡◌, ℕ, ◌*◌, ◌^◌, ◌<◌, ◌⊎◌}
+use Rattle.std.specs.Prelude.{◌≡◌, ℕ, ◌*◌, ◌^◌, ◌<◌, ◌≤◌, ◌⊎◌, Bool, false, if◌then◌else◌, length, All}
 use Rattle.event_table.specs.declared.access.Access.{Access}
 use Rattle.event_table.specs.declared.access.Access.TheVariants as access
 use Rattle.event_table.specs.declared.row.Kind.{Kind}
 use Rattle.event_table.specs.declared.row.Kind.TheVariants as kind
 use Rattle.event_table.specs.declared.event.Event.{Event}
-use Rattle.event_table.specs.declared.event.Event.TheVariants.{One}
+use Rattle.event_table.specs.declared.event.Event.TheVariants.{One, Many}
+use Rattle.event_table.specs.declared.block.Block.{Block}
 
 -- the sizes of port I/O, in bytes (APM volume 3, IN and OUT)
 abbrev pub IsSize : ℕ → Type 0
 IsSize size = (size ≡ 1) ⊎ (size ≡ 2) ⊎ (size ≡ 4)
 
--- a kind of event with a size that port I/O has
+-- so many elements of a size fit the shared buffer, and without REP there is one
+abbrev pub IsCount : ℕ → Bool → ℕ → Type 0
+IsCount size rep count = (1 ≤ count) × (count * size ≤ 2032) × (rep ≡ false → count ≡ 1)
+
+-- a kind of event with a size that port I/O has, and as many elements as a block can have
 abbrev pub IsKind : Kind → Type 0
 IsKind (kind.Out port size) = IsSize size
 IsKind (kind.In port size) = IsSize size
+IsKind (kind.Outs port size rep count) = IsSize size × IsCount size rep count
+IsKind (kind.Ins port size rep count) = IsSize size × IsCount size rep count
 IsKind _ = Unit {0}
 
 -- each number fits its type, and port I/O has its sizes
@@ -28,9 +35,25 @@ IsLawfulAccess (access.Rdpmc index) = index < 2 ^ 32
 IsLawfulAccess (access.Vmmcall rax) = rax < 2 ^ 64
 IsLawfulAccess _ = Unit {0}
 
+-- Its elements fit the shared buffer, and an output has their bytes.
+pub record IsLawfulBlock (b : Block) : Type 0 where
+  pub port : b.port < 2 ^ 16
+  pub size : IsSize b.size
+  pub count : IsCount b.size b.rep b.count
+  pub bytes : length b.bytes ≡ (if b.input then 0 else b.count * b.size)
+  pub fits : All (λ byte. byte < 2 ^ 8) b.bytes
+
 abbrev pub IsLawfulEvent : Event → Type 0
 IsLawfulEvent (One access) = IsLawfulAccess access
+IsLawfulEvent (Many block) = IsLawfulBlock block
+
+-- a kind of event that is one access, with its data in registers
+abbrev pub IsOfRegisters : Kind → Type 0
+IsOfRegisters (kind.Outs port size rep count) = ⊥
+IsOfRegisters (kind.Ins port size rep count) = ⊥
+IsOfRegisters _ = Unit {0}
 
 -- how many accesses an event is
 abbrev pub count_of : Event → ℕ
 count_of (One access) = 1
+count_of (Many block) = block.count

@@ -1,6 +1,6 @@
--- What an instruction does. Each instruction's meaning is one plan; the private step, the access that
+-- What an instruction does. Each instruction's meaning is one plan; the private step, the event that
 -- is asked, and the placing of its results are readings of it.
-use Rattle.std.specs.Prelude.{◌≡◌, ℕ, ◌+◌, ◌*◌, ◌%◌, ◌^◌, Bool, if◌then◌else◌, List, [], ◌∷◌, length, map, Option, None, Some, Result, Ok, Err}
+use Rattle.std.specs.Prelude.{◌≡◌, ℕ, ◌+◌, ◌*◌, ◌%◌, ◌^◌, Bool, true, false, if◌then◌else◌, List, [], ◌∷◌, length, map, Option, None, Some, Result, Ok, Err}
 use Rattle.image_file.specs.Ram as ram_of
 use Rattle.x86_base.specs.declared.insn.Insn.{Insn}
 use Rattle.x86_base.specs.declared.regs.Regs.{Regs}
@@ -11,8 +11,9 @@ use Rattle.x86_base.specs.declared.reg.Reg.{Reg}
 use Rattle.x86_base.specs.declared.reg.Width.{Width}
 use Rattle.x86_base.specs.declared.reg.Width.TheVariants.{B64}
 use Rattle.x86_base.specs.Widths.{low}
-use Rattle.event_table.specs.declared.access.Access.{Access}
 use Rattle.event_table.specs.declared.access.Values.{Values}
+use Rattle.event_table.specs.declared.event.Event.{Event}
+use Rattle.event_table.specs.declared.outcome.Reply.{Reply}
 use Rattle.event_table.specs.declared.end.End.{End}
 use Rattle.event_table.specs.declared.end.End.TheVariants.{Undecoded, BadAddress}
 use Rattle.event_table.specs.declared.end.End.TheVariants as ends
@@ -61,21 +62,34 @@ pub data Plan : Type 0 where
   Next : Plan
   Then : (change : Change) → (rest : Plan) → Plan
   Looks : (kind : Use) → (places : List Place) → (next : List Value → Plan) → Plan
-  -- an access is asked: what comes of its results
-  Asks : (access : Access) → (done : Values → Plan) → Plan
+  -- an event is asked: what comes of its reply
+  Asks : (event : Event) → (done : Reply → Plan) → Plan
 
 -- What a plan may depend on besides what it looks at: where the instruction and the following one
--- stand, the sizes of RAM and of the code, and the direction flag.
+-- stand, the sizes of RAM and of the code, the direction flag, and whether the elements of string I/O
+-- are asked one by one, or together as a block.
 pub record Setting : Type 0 where
   pub rip : ℕ
   pub next : ℕ
   pub ram : ℕ
   pub code : ℕ
   pub df : Bool
+  pub alone : Bool
 
 -- at a vCPU, for an instruction of so many bytes
 abbrev pub setting : Vcpu → ℕ → Setting
-setting v len = record { rip = v.regs.rip; next = (v.regs.rip + len) % 2 ^ 64; ram = length v.ram.bytes; code = v.ram.code; df = v.regs.flags.df }
+setting v len = record {
+  rip = v.regs.rip;
+  next = (v.regs.rip + len) % 2 ^ 64;
+  ram = length v.ram.bytes;
+  code = v.ram.code;
+  df = v.regs.flags.df;
+  alone = false;
+}
+
+-- the same, where each element of string I/O is an event of its own
+abbrev pub apart : Vcpu → ℕ → Setting
+apart v len = record (setting v len) { alone = true }
 
 -- one change, and the instruction is over
 abbrev pub goes : Change → Plan
@@ -149,28 +163,32 @@ at_operand s width operand plan = Looks Address (address_places operand) (λ par
 -- What an instruction comes to at a vCPU.
 pub data Stepped : Type 0 where
   Moved : (vcpu : Vcpu) → Stepped
-  Exits : (access : Access) → (vcpu : Vcpu) → Stepped
+  Exits : (event : Event) → (vcpu : Vcpu) → Stepped
   Stops : (end : End) → (vcpu : Vcpu) → Stepped
 
--- the private step, or the access that is asked
+-- the private step, or the event that is asked
 abbrev pub stepped : Vcpu → Plan → Stepped
 stepped v (Ends end) = Stops end v
 stepped v Next = Moved v
 stepped v (Then change rest) = stepped (apply change v) rest
 stepped v (Looks kind places next) = stepped v (next (map (read v) places))
-stepped v (Asks access done) = Exits access v
+stepped v (Asks event done) = Exits event v
 
--- the access that is asked, if one is
-abbrev pub access_asked : Vcpu → Plan → Option Access
-access_asked v (Looks kind places next) = access_asked v (next (map (read v) places))
-access_asked v (Asks access done) = Some access
-access_asked v _ = None
+-- the event that is asked, if one is
+abbrev pub event_asked : Vcpu → Plan → Option Event
+event_asked v (Looks kind places next) = event_asked v (next (map (read v) places))
+event_asked v (Asks event done) = Some event
+event_asked v _ = None
 
--- how the instruction goes on with the results of its access; one that asks nothing isn't answered
-abbrev pub step_answered : Values → Vcpu → Plan → Stepped
-step_answered values v (Looks kind places next) = step_answered values v (next (map (read v) places))
-step_answered values v (Asks access done) = stepped v (done values)
-step_answered values v _ = Stops Undecoded v
+-- the reply to one access
+abbrev pub reply_with : Values → Reply
+reply_with values = record { values = values; bytes = [] }
+
+-- how the instruction goes on with the reply to its event; one that asks nothing isn't answered
+abbrev pub step_answered : Reply → Vcpu → Plan → Stepped
+step_answered reply v (Looks kind places next) = step_answered reply v (next (map (read v) places))
+step_answered reply v (Asks event done) = stepped v (done reply)
+step_answered reply v _ = Stops Undecoded v
 
 -- how a vCPU ends that an instruction stops
 abbrev pub end_of : Stop → End

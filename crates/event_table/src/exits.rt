@@ -1,24 +1,20 @@
 // What an instruction that exits asks of the devices, and where the results go.
-ghost use Rattle.std.specs.Prelude.{◌≡◌, is_some, IfSome, IsSome};
+ghost use Rattle.std.specs.Prelude.{◌≡◌, is_some, option_map, IfSome, IsSome};
 ghost use Rattle.image_file.specs.Ram.{Memory};
-ghost use Rattle.event_table.specs.Events.{asked_by, comes_later as is_later, kind_at, placed_by};
-ghost use Rattle.event_table.specs.Events.{place_if, port_at, port_of};
-ghost use Rattle.event_table.specs.Lawful.{IsKind, IsLawfulAccess, IsSize};
+ghost use Rattle.event_table.specs.Events.{asked_apart, kind_at, placed_apart};
+ghost use Rattle.event_table.specs.Events.{place_if, port_at, port_of, registers_plan};
+ghost use Rattle.event_table.specs.Lawful.{IsKind, IsLawfulAccess, IsOfRegisters};
 ghost use Rattle.event_table.specs.Places.{read, vcpu, write, Number};
-ghost use Rattle.event_table.specs.Plan.{Moved};
+ghost use Rattle.event_table.specs.Plan.{Ends, Moved, apart, event_asked, reply_with, step_answered};
+ghost use Rattle.event_table.specs.declared.end.End.TheVariants.{Undecoded};
+ghost use Rattle.event_table.specs.declared.event.Event.TheVariants.{One};
 
 use crate::access::{Access, Values};
+use crate::elements::{is_string, named_element, place_element, port_size};
 use crate::places::following;
 use crate::row::{Kind, Registers, access_of, row_of};
 use image_file::Ram;
 use x86_base::{Insn, Op, Operand, Reg, Regs, Width};
-
-/// Whether an instruction exits for accesses that aren't shown to the host yet: string I/O.
-pub fn comes_later(insn: &Insn) -> bool
-    ensures value { result ≡ is_later insn.now }
-{
-    matches!(insn.op, Op::Ins | Op::Outs)
-}
 
 /// The port that an operand names: a number of the instruction, or DX.
 fn port_in(regs: &Regs, operand: &Operand) -> u16
@@ -41,32 +37,21 @@ fn port(regs: &Regs, insn: &Insn) -> u16
     }
 }
 
-/// The bytes of port I/O: it has no width of 64 bits (APM volume 3, IN and OUT).
-fn io_size(width: Width) -> u8
-    ensures value { result ≡ Rattle.event_table.specs.Events.io_size width }
-    ensures lawful { IsSize result }
-{
-    match width {
-        Width::B8 => 1,
-        Width::B16 => 2,
-        _ => 4,
-    }
-}
-
 /// The event of an instruction that exits, with its port where it has one.
 #[inline(always)]
 fn kind(insn: &Insn, port: u16) -> Option<Kind>
     ensures value { result ≡ kind_at insn.now.op insn.now.width port }
     ensures lawful { IfSome result IsKind }
+    ensures registers { IfSome result IsOfRegisters }
 {
     match insn.op {
         Op::Out => Some(Kind::Out {
             port,
-            size: io_size(insn.width),
+            size: port_size(insn.width),
         }),
         Op::In => Some(Kind::In {
             port,
-            size: io_size(insn.width),
+            size: port_size(insn.width),
         }),
         Op::Cpuid => Some(Kind::Cpuid),
         Op::Rdmsr => Some(Kind::Rdmsr),
@@ -80,7 +65,7 @@ fn kind(insn: &Insn, port: u16) -> Option<Kind>
     }
 }
 
-/// Whether an instruction exits for an access that is shown to the host, as [`named`] gives it.
+/// Whether an instruction exits for an access that has its data in registers, as [`named`] gives it.
 #[inline(always)]
 pub fn is_event(insn: &Insn) -> bool
     ensures value { result ≡ is_some (kind_at insn.now.op insn.now.width 0) }
@@ -95,10 +80,10 @@ fn shown(regs: &Regs, is: bool, reg: Reg) -> u64
     if is { regs.get(reg) } else { 0 }
 }
 
-/// The access that an instruction asks of the devices, at registers and RAM. There is none exactly
-/// where the instruction exits for nothing, or is string I/O.
-pub fn named(regs: &Regs, ram: &Ram, insn: &Insn) -> Option<Access>
-    ensures value { result ≡ asked_by insn.now (vcpu regs.now ram.now) }
+/// The access of an instruction that has its data in registers.
+fn named_registers(regs: &Regs, insn: &Insn) -> Option<Access>
+    ensures value { (ram : Memory) → let v = vcpu regs.now ram in
+        option_map One result ≡ event_asked v (registers_plan insn.now (apart v insn.now.len) (Ends Undecoded)) }
     ensures lawful { IfSome result IsLawfulAccess }
 {
     let kind = kind(insn, port(regs, insn))?;
@@ -111,7 +96,22 @@ pub fn named(regs: &Regs, ram: &Ram, insn: &Insn) -> Option<Access>
     Some(access_of(&kind, &registers))
 }
 
+/// The access that an instruction asks of the devices, at registers and RAM; of string I/O that of its
+/// next element. There is none exactly where the instruction exits for nothing, has REP with RCX 0, or
+/// its first element can't be moved.
+pub fn named(regs: &Regs, ram: &Ram, insn: &Insn) -> Option<Access>
+    ensures value { option_map One result ≡ asked_apart insn.now (vcpu regs.now ram.now) }
+    ensures lawful { IfSome result IsLawfulAccess }
+{
+    if is_string(insn) {
+        named_element(regs, ram, insn)
+    } else {
+        named_registers(regs, insn)
+    }
+}
+
 /// Puts a result in its register, where a row has one for it.
+#[inline(always)]
 fn put_if(regs: &mut Regs, is: bool, reg: Reg, width: Width, value: u64)
     ensures change { (ram : Memory) →
         vcpu regs.new ram ≡ write (place_if is reg width) (Number value) (vcpu regs.old ram) }
@@ -121,10 +121,14 @@ fn put_if(regs: &mut Regs, is: bool, reg: Reg, width: Width, value: u64)
     }
 }
 
-/// Puts the results of the access that an instruction asks in their places, and goes on.
-pub fn place(regs: &mut Regs, ram: &mut Ram, insn: &Insn, values: &Values)
-    requires asked { IsSome (asked_by insn.now (vcpu regs.old ram.old)) }
-    ensures placed { Moved (vcpu regs.new ram.new) ≡ placed_by values.now insn.now (vcpu regs.old ram.old) }
+/// Puts the results of an access that has its data in registers in their places, and goes on.
+#[inline(always)]
+fn place_registers(regs: &mut Regs, ram: &mut Ram, insn: &Insn, values: &Values)
+    requires asked { let v = vcpu regs.old ram.old in
+        IsSome (event_asked v (registers_plan insn.now (apart v insn.now.len) (Ends Undecoded))) }
+    ensures placed { let v = vcpu regs.old ram.old in
+        Moved (vcpu regs.new ram.new) ≡
+        step_answered (reply_with values.now) v (registers_plan insn.now (apart v insn.now.len) (Ends Undecoded)) }
 {
     let next = following(regs, insn);
     if let Some(kind) = kind(insn, port(regs, insn)) {
@@ -135,4 +139,18 @@ pub fn place(regs: &mut Regs, ram: &mut Ram, insn: &Insn, values: &Values)
         put_if(regs, row.results.b, Reg::Rbx, row.width, values.b);
     }
     regs.rip = next;
+}
+
+/// Puts the results of the access that an instruction asks in their places, and goes on; of string I/O
+/// those of its next element, and it goes on with the last.
+#[inline(always)]
+pub fn place(regs: &mut Regs, ram: &mut Ram, insn: &Insn, values: &Values)
+    requires asked { IsSome (asked_apart insn.now (vcpu regs.old ram.old)) }
+    ensures placed { Moved (vcpu regs.new ram.new) ≡ placed_apart values.now insn.now (vcpu regs.old ram.old) }
+{
+    if is_string(insn) {
+        place_element(regs, ram, insn, values)
+    } else {
+        place_registers(regs, ram, insn, values)
+    }
 }

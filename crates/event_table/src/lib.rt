@@ -5,13 +5,16 @@
 //! exception (`specs/Raising.antt`).
 //!
 //! The event table: `specs/Rows.antt` has a row for each event, with what the host is shown and what comes
-//! back, and `specs/Events.antt` reads it: which access an instruction asks, and where its results go.
+//! back, and `specs/Events.antt` reads it: which event an instruction asks, and where its results go.
+//! `specs/Elements.antt` has string I/O, whose elements are asked one by one or together as a block.
 //!
 //! Results: what a guest takes of a reply, how a vCPU ends, and the order of what was asked.
 #![tactic(auto)]
 
 mod access;
+mod block;
 mod bytes;
+mod elements;
 mod end;
 mod event;
 mod exits;
@@ -24,12 +27,17 @@ mod tests;
 mod turn;
 
 pub use access::{Access, Values};
+pub use block::Block;
 pub use bytes::Bytes;
+pub use elements::{is_input, is_string, left, next_address, pointer, port_size};
 pub use end::{End, Reason};
 pub use event::Event;
-pub use exits::{comes_later, is_event, named, place};
+pub use exits::{is_event, named, place};
 pub use outcome::{Outcome, Reply};
 pub use places::{Place, find, following, load, store};
 pub use raising::raise;
-pub use row::{Kind, Registers, Results, Row, Shows, access_of, kind_of, registers_of, row_of};
+pub use row::{
+    Kind, Registers, Results, Row, Shows, access_of, bytes_back, kind_of, kind_of_block,
+    kind_of_event, registers_of, row_of,
+};
 pub use turn::{Entry, Finished, Turn};

@@ -1,18 +1,44 @@
 // The event table (AMD 56421, section 4, the state of each non-automatic exit).
-ghost use Rattle.std.specs.Prelude.{◌≡◌};
+ghost use Rattle.std.specs.Prelude.{◌≡◌, []};
+ghost use Rattle.x86_base.specs.Widths.{bits_of};
 ghost use Rattle.exit_info.specs.IoInfo.{info_word};
-ghost use Rattle.event_table.specs.Lawful.{IsKind, IsLawfulAccess};
+ghost use Rattle.event_table.specs.Lawful.{IsKind, IsLawfulAccess, IsOfRegisters};
 ghost use Rattle.event_table.specs.Rows as rows;
+ghost use Rattle.event_table.specs.declared.event.Event.TheVariants.{One};
+ghost use Rattle.exit_info.specs.declared.exit_code.ExitCode.TheVariants as code;
 
 use crate::access::Access;
+use crate::block::Block;
+use crate::event::Event;
 use exit_info::{ExitCode, IoInfo};
 use x86_base::Width;
 
-/// What kind of event an access is. Port I/O has its port and its size in the exit info.
+/// What kind of event is asked. Port I/O has its port and its size in the exit info, and string I/O also
+/// REP; the count of a block's elements is SW_EXITINFO2.
 #[derive(Clone, Copy, Debug, PartialEq, Eq)]
 pub enum Kind {
-    Out { port: u16, size: u8 },
-    In { port: u16, size: u8 },
+    Out {
+        port: u16,
+        size: u8,
+    },
+    In {
+        port: u16,
+        size: u8,
+    },
+    /// A block of OUTS.
+    Outs {
+        port: u16,
+        size: u8,
+        rep: bool,
+        count: u64,
+    },
+    /// A block of INS.
+    Ins {
+        port: u16,
+        size: u8,
+        rep: bool,
+        count: u64,
+    },
     Cpuid,
     Rdmsr,
     Wrmsr,
@@ -43,12 +69,15 @@ pub struct Results {
     pub b: bool,
 }
 
-/// A row of the table: the exit code, which is also the code of #VC; SW_EXITINFO1; what is shown and
-/// what comes back, and the width of the results.
+/// A row of the table: the exit code, which is also the code of #VC; SW_EXITINFO1 and, as a count,
+/// SW_EXITINFO2; whether SW_SCRATCH names the shared buffer; what is shown and what comes back, and the
+/// width of the results.
 #[derive(Clone, Copy, Debug, PartialEq, Eq)]
 pub struct Row {
     pub code: u64,
     pub info: u64,
+    pub count: u64,
+    pub scratch: bool,
     pub shows: Shows,
     pub results: Results,
     pub width: Width,
@@ -71,16 +100,20 @@ pub struct Registers {
     pub d: u64,
 }
 
-/// The row of a kind by columns, where 1 stands for a word that is shown or comes back.
+/// The row of a kind by columns, where 1 stands for a word that is shown or comes back; first the kinds
+/// that have their data in the shared buffer.
 macro_rules! rows {
-    ($kind:expr; $($is:pat =>
+    ($kind:expr; {$($block:pat => $block_info:expr, $count:expr;)*} $($is:pat =>
         $cpl:literal $a:literal $c:literal $d:literal $xcr:literal,
         $ra:literal $rc:literal $rd:literal $rb:literal,
         $code:ident, $width:expr, $info:expr;)*) => {
         match $kind {
+            $($block => buffer_row($block_info, $count),)*
             $($is => Row {
                 code: ExitCode::$code.write(),
                 info: $info,
+                count: 0,
+                scratch: false,
                 shows: Shows {
                     cpl: $cpl == 1,
                     a: $a == 1,
@@ -111,6 +144,17 @@ fn io_width(size: u8) -> Width
     }
 }
 
+/// The bits of port I/O: 8 and 16 for 1 and 2 bytes, and 32 for any other number.
+fn io_bits(size: u8) -> u8
+    ensures value { result ≡ bits_of (rows.io_width size) }
+{
+    match size {
+        1 => 8,
+        2 => 16,
+        _ => 32,
+    }
+}
+
 /// SW_EXITINFO1 of IN or OUT: one access at a port, and addresses of 64 bits (APM volume 2, section
 /// 15.10.2).
 fn io_info(port: u16, size: u8, input: bool) -> u64
@@ -121,22 +165,69 @@ fn io_info(port: u16, size: u8, input: bool) -> u64
         input,
         string: false,
         rep: false,
-        size: match io_width(size) {
-            Width::B8 => 8,
-            Width::B16 => 16,
-            _ => 32,
-        },
+        size: io_bits(size),
         address: 64,
         segment: 0,
     };
     info.write()
 }
 
+/// SW_EXITINFO1 of INS or OUTS: string I/O, with REP or without, in the segment ES or DS (APM volume 2,
+/// section 15.10.2).
+#[inline(never)]
+fn string_io_info(port: u16, size: u8, rep: bool, input: bool) -> u64
+    ensures value { result ≡ info_word (rows.string_io_of port size rep input) }
+{
+    let info = IoInfo {
+        port,
+        input,
+        string: true,
+        rep,
+        size: io_bits(size),
+        address: 64,
+        segment: if input { 0 } else { 3 },
+    };
+    info.write()
+}
+
+/// The row of port I/O with its data in the shared buffer.
+#[inline(always)]
+fn buffer_row(info: u64, count: u64) -> Row
+    ensures value { result ≡ rows.buffer_row code.Io info count }
+{
+    Row {
+        code: ExitCode::Io.write(),
+        info,
+        count,
+        scratch: true,
+        shows: Shows {
+            cpl: false,
+            a: false,
+            c: false,
+            d: false,
+            xcr: false,
+        },
+        results: Results {
+            a: false,
+            c: false,
+            d: false,
+            b: false,
+        },
+        width: Width::B64,
+    }
+}
+
 /// The row of a kind of event.
+#[inline(always)]
 pub fn row_of(kind: &Kind) -> Row
     ensures value { result ≡ rows.event_row kind.now }
 {
     rows!(*kind;
+        {
+            // in the shared buffer                  SW_EXITINFO1                            SW_EXITINFO2
+            Kind::Outs { port, size, rep, count } => string_io_info(port, size, rep, false), count;
+            Kind::Ins { port, size, rep, count }  => string_io_info(port, size, rep, true),  count;
+        }
         //                          shown to the host    coming back      code     width           SW_EXITINFO1
         //                          CPL RAX RCX RDX XCR0 RAX RCX RDX RBX
         Kind::Out { port, size } => 0   1   0   0   0,   0   0   0   0,   Io,      io_width(size), io_info(port, size, false);
@@ -170,6 +261,55 @@ pub fn kind_of(access: &Access) -> Kind
     }
 }
 
+/// The kind of a block.
+pub fn kind_of_block(block: &Block) -> Kind
+    ensures value { result ≡ rows.kind_of_block block.now }
+{
+    let Block {
+        port,
+        size,
+        rep,
+        ..
+    } = *block;
+    let count = u64::from(block.count);
+    if block.input {
+        Kind::Ins {
+            port,
+            size,
+            rep,
+            count,
+        }
+    } else {
+        Kind::Outs {
+            port,
+            size,
+            rep,
+            count,
+        }
+    }
+}
+
+/// The kind of an event.
+pub fn kind_of_event(event: &Event) -> Kind
+    ensures value { result ≡ rows.kind_of_event event.now }
+{
+    match event {
+        Event::One(access) => kind_of(access),
+        Event::Many(block) => kind_of_block(block),
+    }
+}
+
+/// How many bytes come back in the shared buffer.
+pub fn bytes_back(kind: &Kind) -> u16
+    requires kind { IsKind kind.now }
+    ensures value { result ≡ rows.bytes_back kind.now }
+{
+    match *kind {
+        Kind::Ins { size, count, .. } => count as u16 * u16::from(size),
+        _ => 0,
+    }
+}
+
 /// The registers that an access shows; one that it doesn't show is 0.
 pub fn registers_of(access: &Access) -> Registers
     ensures value { result ≡ rows.registers_of access.now }
@@ -186,10 +326,11 @@ pub fn registers_of(access: &Access) -> Registers
     Registers { a, c, d }
 }
 
-/// The access of a kind and its registers. What a guest shows of a register, and what of a word counts
-/// for a host, is cut to its size here and nowhere else.
+/// The access of a kind that has its data in registers, and of these. What a guest shows of a register,
+/// and what of a word counts for a host, is cut to its size here and nowhere else.
 pub fn access_of(kind: &Kind, registers: &Registers) -> Access
-    ensures value { result ≡ rows.access_of kind.now registers.now }
+    requires registers { IsOfRegisters kind.now }
+    ensures value { One result ≡ rows.event_by kind.now registers.now [] }
     ensures lawful { IsKind kind.now → IsLawfulAccess result }
 {
     let Registers { a, c, d } = *registers;
@@ -197,9 +338,9 @@ pub fn access_of(kind: &Kind, registers: &Registers) -> Access
         Kind::Out { port, size } => Access::Out {
             port,
             size,
-            value: (match io_width(size) {
-                Width::B8 => a % 0x100,
-                Width::B16 => a % 0x1_0000,
+            value: (match size {
+                1 => a % 0x100,
+                2 => a % 0x1_0000,
                 _ => a % 0x1_0000_0000,
             }) as u32,
         },
@@ -223,5 +364,6 @@ pub fn access_of(kind: &Kind, registers: &Registers) -> Access
         },
         Kind::Wbinvd => Access::Wbinvd,
         Kind::Vmmcall => Access::Vmmcall { rax: a },
+        Kind::Outs { .. } | Kind::Ins { .. } => unreachable!(),
     }
 }

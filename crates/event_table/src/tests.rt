@@ -1,5 +1,5 @@
 // Instructions that exit, and exceptions, over one page of RAM.
-use crate::{Access, Kind, Values, named, place, raise, row_of};
+use crate::{Access, Kind, Values, bytes_back, named, place, raise, row_of};
 use image_file::{Image, Ram};
 use image_samples::sample_image;
 use std::alloc::Global;
@@ -225,4 +225,155 @@ fn xcr0_is_shown_with_the_leaf_of_the_extended_state(rt: HostRuntime) {
     assert_eq!(rt; cpuid.shows_xcr0(0xF_0000_000D), true);
     assert_eq!(rt; cpuid.shows_xcr0(0xE), false);
     assert_eq!(rt; row_of(&Kind::Vmmcall).shows_xcr0(0xD), false);
+}
+
+/// INS or OUTS of two bytes of code, with or without REP.
+fn string(op: Op, width: Width, rep: bool) -> Insn {
+    Insn {
+        rep,
+        ..insn(op, width, NONE, NONE)
+    }
+}
+
+/// Registers with RCX, port 0x3F8, and RSI and RDI at an address, at address 5.
+fn string_regs(count: u64, at: u64, df: bool) -> Regs {
+    let mut regs = regs(A, count, D, 0x1000);
+    regs.gpr[6] = at;
+    regs.gpr[7] = at;
+    regs.flags.df = df;
+    regs
+}
+
+#[test]
+fn the_next_element_is_asked_where_it_can_be_moved(rt: HostRuntime) -> Result<(), Fail> {
+    let mut ram = image(rt.alloc(), 0, 0)?.ram(rt.alloc())?;
+    let _ = ram.write(0x100, 8, A);
+    let (ins, outs) = (Op::Ins, Op::Outs);
+    // RCX, the address, the instruction, and what it asks: none with RCX 0, of an element that leaves RAM, and of an
+    // input over the nine bytes of code.
+    let rows = [
+        (0, 0x100, string(outs, Width::B8, true), None),
+        (
+            0,
+            0x100,
+            string(outs, Width::B8, false),
+            Some(out(0x3F8, 1, 0x88)),
+        ),
+        (
+            7,
+            0x100,
+            string(outs, Width::B16, true),
+            Some(out(0x3F8, 2, 0x7788)),
+        ),
+        (
+            7,
+            0x100,
+            string(outs, Width::B32, true),
+            Some(out(0x3F8, 4, 0x5566_7788)),
+        ),
+        (
+            7,
+            0x100,
+            string(outs, Width::B64, true),
+            Some(out(0x3F8, 4, 0x5566_7788)),
+        ),
+        (1, 0xFFD, string(outs, Width::B32, true), None),
+        (
+            1,
+            0xFFFF_FFFF_FFFF_FFFF,
+            string(outs, Width::B16, true),
+            None,
+        ),
+        (1, 8, string(outs, Width::B8, true), Some(out(0x3F8, 1, 0))),
+        (1, 8, string(ins, Width::B8, true), None),
+        (1, 9, string(ins, Width::B16, true), Some(input(0x3F8, 2))),
+        (0, 9, string(ins, Width::B64, false), Some(input(0x3F8, 4))),
+    ];
+    for (count, at, insn, access) in rows {
+        let regs = string_regs(count, at, false);
+        assert_eq!(rt; named(&regs, &ram, &insn), access);
+    }
+    Ok(())
+}
+
+/// RCX, RSI, RDI and RIP after an element takes a wide result.
+fn moved(ram: &mut Ram, insn: Insn, mut regs: Regs) -> Option<[u64; 4]> {
+    let values = Values {
+        a: 0xFFFF_FFFF_FFFF_FF41,
+        c: 0,
+        d: 0,
+        b: 0,
+    };
+    named(&regs, ram, &insn)?;
+    place(&mut regs, ram, &insn, &values);
+    Some([regs.gpr[1], regs.gpr[6], regs.gpr[7], regs.rip])
+}
+
+#[test]
+fn an_element_moves_its_pointer_and_with_rep_its_count(rt: HostRuntime) -> Result<(), Fail> {
+    let mut ram = image(rt.alloc(), 0, 0)?.ram(rt.alloc())?;
+    let (ins, outs) = (Op::Ins, Op::Outs);
+    // RCX, DF, the instruction, and RCX, RSI, RDI and RIP afterwards: RIP goes on with the last element alone.
+    let rows = [
+        (
+            3,
+            false,
+            string(outs, Width::B16, true),
+            [2, 0x102, 0x100, 5],
+        ),
+        (
+            1,
+            false,
+            string(outs, Width::B16, true),
+            [0, 0x102, 0x100, 7],
+        ),
+        (
+            3,
+            false,
+            string(outs, Width::B16, false),
+            [3, 0x102, 0x100, 7],
+        ),
+        (3, true, string(outs, Width::B32, true), [2, 0xFC, 0x100, 5]),
+        (3, true, string(ins, Width::B8, true), [2, 0x100, 0xFF, 5]),
+        (
+            3,
+            false,
+            string(ins, Width::B32, false),
+            [3, 0x100, 0x104, 7],
+        ),
+    ];
+    for (count, df, insn, after) in rows {
+        let regs = string_regs(count, 0x100, df);
+        assert_eq!(rt; moved(&mut ram, insn, regs), Some(after));
+    }
+    // An input writes its size alone.
+    assert_eq!(rt; ram.read(0xFF, 8).unwrap_or(0), 0x00FF_FFFF_4100);
+    Ok(())
+}
+
+#[test]
+fn a_block_is_shown_in_the_buffer_and_in_exit_info_2(rt: HostRuntime) {
+    let outs = row_of(&Kind::Outs {
+        port: 0x3F8,
+        size: 1,
+        rep: true,
+        count: 2032,
+    });
+    assert_eq!(rt;
+        (outs.code, outs.info, outs.count, outs.scratch),
+        (0x7B, 0x03F8_0E1C, 2032, true)
+    );
+    let ins = Kind::Ins {
+        port: 0x500,
+        size: 4,
+        rep: true,
+        count: 2,
+    };
+    let row = row_of(&ins);
+    assert_eq!(rt;
+        (row.code, row.info, row.count, row.scratch),
+        (0x7B, 0x0500_024D, 2, true)
+    );
+    assert_eq!(rt; bytes_back(&ins), 8);
+    assert_eq!(rt; row_of(&Kind::Cpuid).scratch, false);
 }

@@ -21,7 +21,7 @@ own_stepped code v (Ends end) guards = guards
 own_stepped code v Next guards = tt
 own_stepped code v (Then change rest) guards = own_stepped code (apply change v) rest guards.2
 own_stepped code v (Looks kind places next) guards = own_stepped code v (next (map (read v) places)) (guards (map (read v) places))
-own_stepped code v (Asks access done) guards = tt
+own_stepped code v (Asks event done) guards = tt
 
 own_instruction : (i : Insn) (v : Vcpu) → HasOwnEnd (stepped v (plan_of i (setting v i.len)))
 own_instruction i v = own_stepped v.ram.code v (plan_of i (setting v i.len)) (guards_plan_of i (setting v i.len))
@@ -43,17 +43,17 @@ own_end _ c own = tt
 
 stops_after : (steps : ℕ) (s : Stepped) (more : Counted → Standstill) → HasOwnEnd s → ((gone : Counted) → IsUnterminated (more gone)) → IsUnterminated (stop_after steps s more)
 stops_after steps (Moved v) more own rest = rest (at_count v (steps + 1))
-stops_after steps (Exits access v) more own rest = tt
+stops_after steps (Exits event v) more own rest = tt
 stops_after steps (Stops end v) more own rest = own_end end _ own
 
 stops : (left : ℕ) (c : Counted) → IsUnterminated (next_of left c)
 stops zero c = tt
 stops (suc left) c = stops_after c.steps (step_of c.vcpu) _ (own_step c.vcpu) (λ gone. stops left gone)
 
-stops_answered : (budget steps : ℕ) (s : Stepped) → IsOver s → IsUnterminated (stop_answered steps s (λ gone. next_within budget gone))
-stops_answered budget steps (Moved v) over = stops (budget - (steps + 1)) (at_count v (steps + 1))
-stops_answered budget steps (Exits access v) over = absurd over
-stops_answered budget steps (Stops end v) over = own_end end _ over
+stops_answered : (budget count steps : ℕ) (s : Stepped) → IsOver s → IsUnterminated (stop_answered count steps s (λ gone. next_within budget gone))
+stops_answered budget count steps (Moved v) over = stops (budget - (steps + count)) (at_count v (steps + count))
+stops_answered budget count steps (Exits event v) over = absurd over
+stops_answered budget count steps (Stops end v) over = own_end end _ over
 
 pub own_ends : OwnEnds
 own_ends = record {

@@ -1,19 +1,20 @@
 -- How a guest goes on.
-use Rattle.std.proofs.Common.{◌≡◌, ℕ, suc, zero, ◌-◌, ◌<◌, [], ◌∷◌, true, Option, Some, None, Result, Ok, Err, map, refl, sym, ap, ◌∙◌, arith, sub-one}
+use Rattle.std.proofs.Common.{◌≡◌, ℕ, suc, zero, ◌-◌, ◌<◌, ◌==◌, Bool, true, false, List, [], ◌∷◌, length, Option, Some, None, Result, Ok, Err, map, refl, sym, ap, ◌∙◌, arith, sub-one}
+use Rattle.std.specs.Prelude.{if◌then◌else◌}
 use Rattle.x86_base.specs.declared.insn.Insn.{Insn}
-use Rattle.x86_base.specs.declared.op.Op.{Op}
-use Rattle.x86_base.specs.declared.op.Op.TheVariants as op
-use Rattle.event_table.specs.declared.access.Values.{Values}
+use Rattle.x86_base.specs.Widths.{size_of}
 use Rattle.event_table.specs.declared.end.End.{End}
 use Rattle.event_table.specs.declared.end.End.TheVariants.{Undecoded}
+use Rattle.event_table.specs.declared.outcome.Reply.{Reply}
+use Rattle.event_table.specs.declared.places.Place.TheVariants.{Bytes}
 use Rattle.event_table.specs.declared.row.Kind.{Kind}
-use Rattle.event_table.specs.Events.{comes_later, comes_later_at, event_or, exit_of, kind_at, port_at}
-use Rattle.event_table.specs.Places.{Vcpu, number, read}
-use Rattle.event_table.specs.Plan.{Plan, Ends, Next, Then, Looks, Asks, Setting, Stepped, Stops, access_asked, step_answered, setting, stepped}
+use Rattle.event_table.specs.Elements.{block_of, can_move, element, element_width, elements, is_input, is_string, next_address, numbers_in, taking}
 use Rattle.event_table.specs.Ending.{IsOver}
-use Rattle.guest_interp.specs.Stepping.{Counted, insn_at, exit_by, plan_by, results_of, step_of, stop_after, next_of}
-use Rattle.guest_interp.specs.Table.{alu_op_of, other_of, private_by}
-use Rattle.guest_interp.specs.Stepping.{stepped_by}
+use Rattle.event_table.specs.Events.{event_or, kind_at, placed_by, port_at}
+use Rattle.event_table.specs.Places.{Vcpu, number, read}
+use Rattle.event_table.specs.Plan.{Plan, Ends, Setting, Stepped, Stops, apply, setting, step_answered, stepped}
+use Rattle.string_io.proofs.Along.{at_of, left_of}
+use Rattle.guest_interp.specs.Stepping.{Counted, insn_at, exit_by, plan_by, results_of, step_of, stepped_by, stop_after, next_of}
 
 next_at : (left : ℕ) (c : Counted) → 0 < left → next_of left c ≡ stop_after c.steps (step_of c.vcpu) (λ gone. next_of (left - 1) gone)
 next_at zero c some = absurd (omega arith)
@@ -33,44 +34,37 @@ pub one_there : (v : Vcpu) (i : Insn) → Ok i ≡ insn_at v.ram v.regs.rip → 
 unfolding step_of
 one_there v i is = ap (λ (r : Result Insn End). stepped v (plan_by r v)) is
 
--- what an operation does that isn't an event's
-abbrev by_op : Insn → Vcpu → ℕ → Op → Stepped
-by_op i v port o = stepped v (event_or (private_by (alu_op_of o) i (setting v i.len)) (kind_at o i.width port) (setting v i.len))
-
-later_at : (o : Op) (i : Insn) (v : Vcpu) (port : ℕ) → comes_later_at o ≡ true → i.op ≡ o → Stops Undecoded v ≡ by_op i v port i.op
-later_at op.Ins i v port later is = sym (ap (λ (x : Op). by_op i v port x) is ∙ ap (λ (x : Op). stepped v (other_of x i (setting v i.len))) is)
-later_at op.Outs i v port later is = sym (ap (λ (x : Op). by_op i v port x) is ∙ ap (λ (x : Op). stepped v (other_of x i (setting v i.len))) is)
-later_at _ i v port later is = cc
-
--- one of those that exit for an access that comes later ends it
-pub later_ends : (v : Vcpu) (i : Insn) → comes_later i ≡ true → Stops Undecoded v ≡ stepped_by i v
-later_ends v i later = later_at i.op i v (number (map (read v) (port_at i.op i ∷ [])) 0) later refl
-
--- an instruction there goes on with the results of its access
-pub one_answered : (v : Vcpu) (values : Values) (i : Insn) → Ok i ≡ insn_at v.ram v.regs.rip → step_answered values v (exit_of i (setting v i.len)) ≡ results_of values v
+-- an instruction there goes on with the reply to its event
+pub one_answered : (v : Vcpu) (reply : Reply) (i : Insn) → Ok i ≡ insn_at v.ram v.regs.rip → placed_by reply i v ≡ results_of reply v
 unfolding results_of
-one_answered v values i is = ap (λ (r : Result Insn End). step_answered values v (exit_by r v)) is
+one_answered v reply i is = ap (λ (r : Result Insn End). step_answered reply v (exit_by r v)) is
 
-placed_none : (v : Vcpu) (values : Values) (p : Plan) → access_asked v p ≡ None → Stops Undecoded v ≡ step_answered values v p
-placed_none v values (Ends end) none = refl
-placed_none v values Next none = refl
-placed_none v values (Then change rest) none = refl
-placed_none v values (Looks kind places next) none = placed_none v values (next (map (read v) places)) none
-placed_none v values (Asks access done) none = cc
+pub over_if : (t : Bool) (v : Vcpu) (reply : Reply) (p q : Plan) → IsOver (step_answered reply v p) → IsOver (step_answered reply v q) → IsOver (step_answered reply v (if t then p else q))
+over_if true v reply p q one other = one
+over_if false v reply p q one other = other
 
--- one that asks nothing isn't answered
-pub unasked_answered : (v : Vcpu) (values : Values) (i : Insn) → Ok i ≡ insn_at v.ram v.regs.rip → access_asked v (exit_of i (setting v i.len)) ≡ None → Stops Undecoded v ≡ results_of values v
-unasked_answered v values i is none = placed_none v values (exit_of i (setting v i.len)) none ∙ one_answered v values i is
+pub taking_over : (i : Insn) (s : Setting) (at left : ℕ) (values : List ℕ) (v : Vcpu) → IsOver (stepped v (taking i s at left values))
+taking_over i s at left [] v = tt
+taking_over i s at left (value ∷ values) v =
+    taking_over i s (next_address s.df (size_of (element_width i)) at) (left - 1) values (apply (element i s at left value) v)
 
-exit_over : (k : Option Kind) (s : Setting) (v : Vcpu) (values : Values) → IsOver (step_answered values v (event_or (Ends Undecoded) k s))
-exit_over None s v values = tt
-exit_over (Some k) s v values = tt
+string_over : (i : Insn) (v : Vcpu) (reply : Reply) → IsOver (step_answered reply v (block_of i (setting v i.len)))
+string_over i v reply =
+    over_if (left_of i.rep v == 0) v reply _ _ tt
+    (over_if (can_move (is_input i.op) (setting v i.len) (Bytes (at_of i v) (element_width i))) v reply _ _ (taking_over i (setting v i.len) (at_of i v) (left_of i.rep v)
+    (numbers_in (size_of (element_width i)) (length (elements i (setting v i.len) (at_of i v) (left_of i.rep v))) reply.bytes) v) tt)
 
-answer_over : (r : Result Insn End) (v : Vcpu) (values : Values) → IsOver (step_answered values v (exit_by r v))
-answer_over (Ok i) v values = exit_over (kind_at i.op i.width (number (map (read v) (port_at i.op i ∷ [])) 0)) (setting v i.len) v values
-answer_over (Err end) v values = tt
+pub exit_over : (k : Option Kind) (s : Setting) (v : Vcpu) (reply : Reply) → IsOver (step_answered reply v (event_or (Ends Undecoded) k s))
+exit_over None s v reply = tt
+exit_over (Some k) s v reply = tt
 
--- an answered access is over: nothing more is asked
-pub results_over : (v : Vcpu) (values : Values) → IsOver (results_of values v)
+answer_over : (r : Result Insn End) (v : Vcpu) (reply : Reply) → IsOver (step_answered reply v (exit_by r v))
+answer_over (Ok i) v reply =
+    over_if (is_string i.op) v reply _ _ (string_over i v reply)
+    (exit_over (kind_at i.op i.width (number (map (read v) (port_at i.op i ∷ [])) 0)) (setting v i.len) v reply)
+answer_over (Err end) v reply = tt
+
+-- an answered event is over: nothing more is asked
+pub results_over : (v : Vcpu) (reply : Reply) → IsOver (results_of reply v)
 unfolding results_of
-results_over v values = answer_over (insn_at v.ram v.regs.rip) v values
+results_over v reply = answer_over (insn_at v.ram v.regs.rip) v reply

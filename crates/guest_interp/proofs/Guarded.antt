@@ -1,5 +1,5 @@
 -- No instruction writes into the code, and none ends the communication with the host.
-use Rattle.std.proofs.Common.{◌≡◌, ℕ, ◌+◌, ◌-◌, ◌*◌, ◌/◌, ◌%◌, ◌^◌, ◌<◌, ◌≤◌, Bool, true, false, not, ◌&&◌, ◌==◌, nat_le, nat_lt, if◌then◌else◌, List, [], ◌∷◌, ◌++◌, map, Option, None, Some, refl, sym, arith}
+use Rattle.std.proofs.Common.{◌≡◌, ℕ, zero, suc, ◌+◌, ◌-◌, ◌*◌, ◌/◌, ◌%◌, ◌^◌, ◌<◌, ◌≤◌, Bool, true, false, not, ◌&&◌, ◌==◌, nat_le, nat_lt, if◌then◌else◌, min, List, [], ◌∷◌, ◌++◌, drop, length, map, Option, None, Some, refl, sym, arith}
 use Rattle.std.proofs.lemmas.Bool.{and_parts}
 use Rattle.std.proofs.lemmas.Grind.{common_steps}
 use Rattle.x86_base.specs.declared.insn.Insn.{Insn}
@@ -15,12 +15,13 @@ use Rattle.x86_base.specs.Widths.{size_of}
 use Rattle.image_file.specs.declared.header.Header.{Header}
 use Rattle.alu_ops.specs.declared.op.AluOp.{AluOp}
 use Rattle.alu_ops.specs.declared.op.AluOp.TheVariants.{Shl, Shr, Sar}
-use Rattle.event_table.specs.declared.access.Values.{Values}
+use Rattle.event_table.specs.declared.outcome.Reply.{Reply}
 use Rattle.event_table.specs.declared.end.End.TheVariants.{Undecoded}
 use Rattle.event_table.specs.declared.places.Place.{Place}
 use Rattle.event_table.specs.declared.places.Place.TheVariants.{Fixed, Low, Status, Bytes}
 use Rattle.event_table.specs.declared.row.Kind.{Kind}
 use Rattle.event_table.specs.Ending.{IsOwnEnd}
+use Rattle.event_table.specs.Elements.{block_of, can_move, counter, element_of, element_width, is_input, is_string, movable, next_address, numbers_in, taking}
 use Rattle.event_table.specs.Events.{event_or, exit_of, event_plan, kind_at, place_if}
 use Rattle.event_table.specs.Places.{Value, Number, number, is_readable, is_writable}
 use Rattle.event_table.specs.Plan.{Plan, Ends, Next, Then, Looks, Asks, Setting, place_at, if_readable, if_writable, place_in}
@@ -36,14 +37,14 @@ Guards code (Ends end) = IsOwnEnd end
 Guards code Next = Unit {0}
 Guards code (Then change rest) = SparesAll code change.targets × SparesAll code change.moved × Guards code rest
 Guards code (Looks kind places next) = (values : List Value) → Guards code (next values)
-Guards code (Asks access done) = (values : Values) → Guards code (done values)
+Guards code (Asks event done) = (reply : Reply) → Guards code (done reply)
 
 keeps_code : (code : ℕ) (plan : Plan) → Guards code plan → KeepsCode code plan
 keeps_code code (Ends end) guards = tt
 keeps_code code Next guards = tt
 keeps_code code (Then change rest) guards = (guards.0, guards.1, keeps_code code rest guards.2)
 keeps_code code (Looks kind places next) guards = λ values. keeps_code code (next values) (guards values)
-keeps_code code (Asks access done) guards = λ values. keeps_code code (done values) (guards values)
+keeps_code code (Asks event done) guards = λ reply. keeps_code code (done reply) (guards reply)
 
 above_code : (a b : Bool) → (a && not b) ≡ true → b ≡ false
 above_code true true h = sym h
@@ -134,11 +135,50 @@ spares_if code false reg width = tt
 -- the results of an event go to registers
 guards_event : (s : Setting) (private : Plan) (k : Option Kind) → Guards s.code private → Guards s.code (event_or private k s)
 guards_event s private None h = h
-guards_event s private (Some k) h = λ seen values.
+guards_event s private (Some k) h = λ seen reply.
     (tt, (spares_if s.code (event_row k).results.a _ _, (spares_if s.code (event_row k).results.c _ _, (spares_if s.code (event_row k).results.d _ _, (spares_if s.code (event_row k).results.b _ _, tt)))), tt)
 
+-- an element of input has no byte of the code
+spares_element : (input : Bool) (s : Setting) (p : Place) → can_move input s p ≡ true → Spares s.code (if input then p else Fixed 0)
+spares_element true s p can = spares_writable s.ram s.code p can
+spares_element false s p can = tt
+
+spares_counter : (code : ℕ) (rep : Bool) → Spares code (counter rep)
+spares_counter code true = tt
+spares_counter code false = tt
+
+guards_element : (i : Insn) (s : Setting) → Guards s.code (element_of i s)
+guards_element i s = λ seen.
+    guards_if s.code (number seen 1 == 0) _ _ (λ _. (tt, tt, tt))
+    (guards_if s.code (can_move (is_input i.op) s (Bytes (number seen 0) (element_width i))) _ _
+    (λ can shown reply. (tt, (spares_element (is_input i.op) s (Bytes (number seen 0) (element_width i)) can, (tt, (spares_counter s.code i.rep, tt))), tt)) tt)
+
+-- as many elements as can be moved
+abbrev taken : Insn → Setting → ℕ → ℕ → List Place → List ℕ → Plan
+taken i s at left places bytes = taking i s at left (numbers_in (size_of (element_width i)) (length places) bytes)
+
+guards_more : (can : Bool) (i : Insn) (s : Setting) (at left : ℕ) (rest : List Place) (bytes : List ℕ) → can_move (is_input i.op) s (Bytes at (element_width i)) ≡ can
+    → Guards s.code (taken i s (next_address s.df (size_of (element_width i)) at) (left - 1) rest (drop (size_of (element_width i)) bytes))
+    → Guards s.code (taken i s at left (if can then Bytes at (element_width i) ∷ rest else []) bytes)
+guards_more true i s at left rest bytes can h = (tt, (spares_element (is_input i.op) s (Bytes at (element_width i)) can, (tt, (spares_counter s.code i.rep, tt))), h)
+guards_more false i s at left rest bytes can h = tt
+
+guards_taken : (i : Insn) (s : Setting) (most at left : ℕ) (bytes : List ℕ) → Guards s.code (taken i s at left (movable (is_input i.op) (element_width i) s most at) bytes)
+guards_taken i s zero at left bytes = tt
+guards_taken i s (suc most) at left bytes =
+    guards_more (can_move (is_input i.op) s (Bytes at (element_width i))) i s at left _ bytes refl
+    (guards_taken i s most (next_address s.df (size_of (element_width i)) at) (left - 1) (drop (size_of (element_width i)) bytes))
+
+guards_block : (i : Insn) (s : Setting) → Guards s.code (block_of i s)
+guards_block i s = λ seen.
+    guards_if s.code (number seen 1 == 0) _ _ (λ _. (tt, tt, tt))
+    (guards_if s.code (can_move (is_input i.op) s (Bytes (number seen 0) (element_width i))) _ _
+    (λ can shown reply. guards_taken i s (min (number seen 1) (2032 / size_of (element_width i))) (number seen 0) (number seen 1) reply.bytes) tt)
+
 guards_plan : (i : Insn) (s : Setting) (private : Plan) → Guards s.code private → Guards s.code (event_plan i s private)
-guards_plan i s private h = λ seen. guards_event s private (kind_at i.op i.width (number seen 0)) h
+guards_plan i s private h =
+    guards_if s.code (is_string i.op) _ _ (λ _. guards_if s.code s.alone _ _ (λ _. guards_element i s) (guards_block i s))
+    (λ seen. guards_event s private (kind_at i.op i.width (number seen 0)) h)
 
 -- the frame of an exception
 frame_room : (t frame ram code : ℕ) → frame < 2 ^ 64 → ram < 2 ^ 64 → (nat_le ((t + 2 ^ 64 - frame) % 2 ^ 64 + frame) ram && not (nat_lt ((t + 2 ^ 64 - frame) % 2 ^ 64) code)) ≡ true → code + frame ≤ t

@@ -2,3 +2,4 @@ pub mod Ended
 pub mod Flagging
 pub mod Going
 pub mod Guarded
+pub mod Placing

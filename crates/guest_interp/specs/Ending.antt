@@ -2,7 +2,7 @@
 use Rattle.std.specs.Prelude.{ℕ}
 use Rattle.image_file.specs.Image.{Contents}
 use Rattle.x86_base.specs.declared.insn.Insn.{Insn}
-use Rattle.event_table.specs.declared.access.Values.{Values}
+use Rattle.event_table.specs.declared.outcome.Reply.{Reply}
 use Rattle.event_table.specs.declared.end.End.TheVariants.{Terminated}
 use Rattle.event_table.specs.Ending.{IsOwnEnd, IsOver}
 use Rattle.event_table.specs.Places.{Vcpu}
@@ -24,9 +24,9 @@ pub record OwnEnds : Type 0 where
   -- what an instruction comes to, and what a vCPU's next one does
   pub instruction : (i : Insn) (v : Vcpu) → HasOwnEnd (stepped_by i v)
   pub step : (v : Vcpu) → HasOwnEnd (step_of v)
-  -- an access that is answered, and an exception, ask nothing more
-  pub answer : (v : Vcpu) (values : Values) → IsOver (results_of values v)
+  -- an event that is answered, and an exception, ask nothing more
+  pub answer : (v : Vcpu) (reply : Reply) → IsOver (results_of reply v)
   pub exception : (image : Contents) (vector code : ℕ) (v : Vcpu) → IsOver (step_raised image vector code v)
   -- where it stops by itself, and after an answer or an exception
   pub stop : (budget : ℕ) (c : Counted) → IsUnterminated (next_within budget c)
-  pub further : (budget steps : ℕ) (s : Stepped) → IsOver s → IsUnterminated (stop_answered steps s (λ gone. next_within budget gone))
+  pub further : (budget count steps : ℕ) (s : Stepped) → IsOver s → IsUnterminated (stop_answered count steps s (λ gone. next_within budget gone))

@@ -2,9 +2,10 @@
 use Rattle.std.specs.Prelude.{◌≡◌, ℕ, ◌+◌, ◌<◌, Option, Some, None, Result, Ok, Err}
 use Rattle.x86_base.specs.declared.insn.Insn.{Insn}
 use Rattle.x86_base.specs.declared.stop.Stop.{Stop as Stopped}
-use Rattle.event_table.specs.declared.access.Access.{Access}
 use Rattle.event_table.specs.declared.end.End.{End}
-use Rattle.event_table.specs.Lawful.{IsLawfulEvent, IsLawfulAccess}
+use Rattle.event_table.specs.declared.event.Event.{Event}
+use Rattle.event_table.specs.Events.{asked_by}
+use Rattle.event_table.specs.Lawful.{IsLawfulEvent}
 use Rattle.event_table.specs.Places.{Vcpu, vcpu}
 use Rattle.event_table.specs.Plan.{Stepped, Moved, Exits, Stops, end_of}
 use Rattle.guest_interp.specs.Stepping.{Counted, at_count, counted, insn_at, Standstill, Waits, Ended}
@@ -13,6 +14,8 @@ use Rattle.guest_interp.specs.declared.guest.Step.{Step}
 use Rattle.guest_interp.specs.declared.guest.Step.TheVariants as step
 use Rattle.guest_interp.specs.declared.guest.Stop.{Stop}
 use Rattle.guest_interp.specs.declared.guest.Stop.TheVariants as stops
+use Rattle.guest_interp.specs.declared.stepping.Tried.{Tried}
+use Rattle.guest_interp.specs.declared.stepping.Tried.TheVariants.{Over, Asks}
 
 -- the vCPU of the code, and its counted steps
 abbrev pub vcpu_in : Guest → Vcpu
@@ -21,35 +24,38 @@ vcpu_in g = vcpu g.regs g.ram
 abbrev pub counted_vcpu : Guest → Counted
 counted_vcpu g = at_count (vcpu_in g) g.steps
 
--- what an instruction comes to by what was tried: it is over, asks for an access, or stops
-abbrev pub tried : Result (Option Access) Stopped → Vcpu → Stepped
-tried (Ok None) v = Moved v
-tried (Ok (Some access)) v = Exits access v
-tried (Err stop) v = Stops (end_of stop) v
+-- what an instruction comes to by what was tried, with what is in the event's place: it is over, asks for that event,
+-- or stops
+abbrev pub tried : Result Tried Stopped → Event → Vcpu → Stepped
+tried (Ok Over) event v = Moved v
+tried (Ok Asks) event v = Exits event v
+tried (Err stop) event v = Stops (end_of stop) v
 
--- the access that was asked
-abbrev pub asked_in : Result (Option Access) Stopped → Option Access
-asked_in (Ok asks) = asks
-asked_in (Err stop) = None
+-- the event that was asked
+abbrev pub asked_in : Result Tried Stopped → Event → Option Event
+asked_in (Ok Over) event = None
+asked_in (Ok Asks) event = Some event
+asked_in (Err stop) event = None
 
 -- nothing has changed, but where the instruction is over
-abbrev pub IsUntouched : Result (Option Access) Stopped → Vcpu → Vcpu → Type 0
-IsUntouched (Ok None) old new = Unit {0}
-IsUntouched _ old new = new ≡ old
+abbrev pub IsUntouched : Result Tried Stopped → Vcpu → Vcpu → Type 0
+IsUntouched (Ok Over) old new = Unit {0}
+IsUntouched (Ok Asks) old new = new ≡ old
+IsUntouched (Err stop) old new = new ≡ old
 
--- what an instruction came to, with the vCPU then
-abbrev pub as_stepped : Step → Vcpu → Stepped
-as_stepped step.Goes v = Moved v
-as_stepped (step.Asks access) v = Exits access v
-as_stepped (step.Ends end) v = Stops end v
+-- what an instruction came to, with what is in the event's place and the vCPU then
+abbrev pub as_stepped : Step → Event → Vcpu → Stepped
+as_stepped step.Goes event v = Moved v
+as_stepped step.Asks event v = Exits event v
+as_stepped (step.Ends end) event v = Stops end v
 
 -- the steps then
 abbrev pub steps_then : Step → ℕ → ℕ
 steps_then step.Goes steps = steps + 1
-steps_then (step.Asks access) steps = steps
+steps_then step.Asks steps = steps
 steps_then (step.Ends end) steps = counted end steps
 
--- what came of an access's results, with the vCPU then
+-- what came of an exception, with the vCPU then
 abbrev pub as_placed : {A : Type 0} → Result A End → Vcpu → Stepped
 as_placed (Ok _) v = Moved v
 as_placed (Err end) v = Stops end v
@@ -59,36 +65,46 @@ abbrev pub steps_placed : {A : Type 0} → Result A End → ℕ → ℕ
 steps_placed (Ok _) steps = steps + 1
 steps_placed (Err end) steps = counted end steps
 
--- where it stops
-abbrev pub as_stop : Stop → Counted → Standstill
-as_stop (stops.Waits event) c = Waits event c
-as_stop (stops.Ends end) c = Ended end c
+-- where it stops, with what is in the event's place
+abbrev pub as_stop : Stop → Event → Counted → Standstill
+as_stop stops.Waits event c = Waits event c
+as_stop (stops.Ends end) event c = Ended end c
 
 -- what it asks for is lawful
-abbrev pub IsLawfulStep : Step → Type 0
-IsLawfulStep (step.Asks access) = IsLawfulAccess access
-IsLawfulStep _ = Unit {0}
+abbrev pub IsLawfulStep : Step → Event → Type 0
+IsLawfulStep step.Asks event = IsLawfulEvent event
+IsLawfulStep _ event = Unit {0}
 
 -- what it waits for is lawful, and a step is left for it
-abbrev pub IsLawfulStop : Stop → ℕ → ℕ → Type 0
-IsLawfulStop (stops.Waits event) steps budget = IsLawfulEvent event × (steps < budget)
-IsLawfulStop (stops.Ends end) steps budget = Unit {0}
+abbrev pub IsLawfulStop : Stop → Event → ℕ → ℕ → Type 0
+IsLawfulStop stops.Waits event steps budget = IsLawfulEvent event × (steps < budget)
+IsLawfulStop (stops.Ends end) event steps budget = Unit {0}
 
--- where an access is asked, nothing has changed
+-- where an event is asked, nothing has changed
 abbrev pub IsStill : Step → Vcpu → Vcpu → Type 0
-IsStill (step.Asks access) old new = new ≡ old
+IsStill step.Asks old new = new ≡ old
 IsStill _ old new = Unit {0}
 
 -- the instruction at RIP
 abbrev pub IsInsnAt : Insn → Vcpu → Type 0
 IsInsnAt insn v = Ok insn ≡ insn_at v.ram v.regs.rip
 
--- where an access is asked, this instruction asks it
-abbrev pub IsAskedBy : Step → Insn → Vcpu → Type 0
-IsAskedBy (step.Asks access) insn v = IsInsnAt insn v
-IsAskedBy _ insn v = Unit {0}
+-- where an event is asked, this instruction asks it
+abbrev pub IsNamedBy : Step → Event → Insn → Vcpu → Type 0
+IsNamedBy step.Asks event insn v = asked_by insn v ≡ Some event
+IsNamedBy _ event insn v = Unit {0}
+
+-- the instruction at RIP asks this event
+pub record IsAsking (insn : Insn) (event : Event) (v : Vcpu) : Type 0 where
+  pub there : IsInsnAt insn v
+  pub asks : asked_by insn v ≡ Some event
+
+-- where an event is asked, this instruction, which is at RIP, asks it
+abbrev pub IsAskedBy : Step → Event → Insn → Vcpu → Type 0
+IsAskedBy step.Asks event insn v = IsAsking insn event v
+IsAskedBy _ event insn v = Unit {0}
 
 -- and where it waits for an event
-abbrev pub IsWaitedBy : Stop → Insn → Vcpu → Type 0
-IsWaitedBy (stops.Waits event) insn v = IsInsnAt insn v
-IsWaitedBy (stops.Ends end) insn v = Unit {0}
+abbrev pub IsWaitedBy : Stop → Event → Insn → Vcpu → Type 0
+IsWaitedBy stops.Waits event insn v = IsAsking insn event v
+IsWaitedBy (stops.Ends end) event insn v = Unit {0}

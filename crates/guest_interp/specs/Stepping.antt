@@ -6,12 +6,10 @@ use Rattle.insn_decode.specs.declared.fault.DecodeFault.TheVariants as fault
 use Rattle.insn_decode.specs.Reading.{decode_of}
 use Rattle.image_file.specs.Image.{Contents}
 use Rattle.image_file.specs.Ram.{Memory, code_from}
-use Rattle.event_table.specs.declared.access.Access.{Access}
-use Rattle.event_table.specs.declared.access.Values.{Values}
 use Rattle.event_table.specs.declared.end.End.{End}
 use Rattle.event_table.specs.declared.end.End.TheVariants as ends
 use Rattle.event_table.specs.declared.event.Event.{Event}
-use Rattle.event_table.specs.declared.event.Event.TheVariants.{One}
+use Rattle.event_table.specs.declared.outcome.Reply.{Reply}
 use Rattle.event_table.specs.Events.{asked_by, event_plan, exit_of, vc_code}
 use Rattle.event_table.specs.Opening.{opening_vcpu}
 use Rattle.event_table.specs.Places.{Vcpu}
@@ -28,14 +26,14 @@ plan_of i s = event_plan i s (private_of i s)
 abbrev pub stepped_by : Insn → Vcpu → Stepped
 stepped_by i v = stepped v (plan_of i (setting v i.len))
 
--- the instruction exits for an access, with this exit code
+-- the instruction exits for an event, with this exit code
 pub record IsExit (code : ℕ) (i : Insn) (v : Vcpu) : Type 0 where
-  pub access : Access
-  pub exits : stepped_by i v ≡ Exits access v
-  pub is_named : asked_by i v ≡ Some access
-  pub is_code : code ≡ vc_code access
+  pub event : Event
+  pub exits : stepped_by i v ≡ Exits event v
+  pub is_named : asked_by i v ≡ Some event
+  pub is_code : code ≡ vc_code event
 
--- the instruction is over, or asks for an access with nothing changed, or ends the vCPU with nothing changed
+-- the instruction is over, or asks for an event with nothing changed, or ends the vCPU with nothing changed
 abbrev pub Comes : Next → Insn → Vcpu → Vcpu → Type 0
 Comes Went i v w = stepped_by i v ≡ Moved w
 Comes (Vc code) i v w = (w ≡ v) × IsExit code i v
@@ -69,9 +67,9 @@ exit_by (Err end) v = Ends ends.Undecoded
 unfoldable pub step_of : Vcpu → Stepped
 step_of v = stepped v (plan_by (insn_at v.ram v.regs.rip) v)
 
--- how it goes on with the results of the access that its instruction asks
-unfoldable pub results_of : Values → Vcpu → Stepped
-results_of values v = step_answered values v (exit_by (insn_at v.ram v.regs.rip) v)
+-- how it goes on with the reply to the event that its instruction asks
+unfoldable pub results_of : Reply → Vcpu → Stepped
+results_of reply v = step_answered reply v (exit_by (insn_at v.ram v.regs.rip) v)
 
 -- a vCPU with the steps that it has counted
 pub record Counted : Type 0 where
@@ -98,14 +96,15 @@ pub data Standstill : Type 0 where
 -- where it stops after an instruction, if `more` tells where one that moved on stops
 abbrev pub stop_after : ℕ → Stepped → (Counted → Standstill) → Standstill
 stop_after steps (Moved v) more = more (at_count v (steps + 1))
-stop_after steps (Exits access v) more = Waits (One access) (at_count v steps)
+stop_after steps (Exits event v) more = Waits event (at_count v steps)
 stop_after steps (Stops end v) more = Ended end (at_count v (counted end steps))
 
--- Where it stops once an access is answered, which is one step. An answer asks nothing more, so that it never exits: the law OwnEnds says so.
-abbrev pub stop_answered : ℕ → Stepped → (Counted → Standstill) → Standstill
-stop_answered steps (Moved v) more = more (at_count v (steps + 1))
-stop_answered steps (Exits access v) more = Waits (One access) (at_count v (steps + 1))
-stop_answered steps (Stops end v) more = Ended end (at_count v (counted end steps))
+-- Where it stops once an event of so many accesses is answered, which is as many steps; an exception in its place is one.
+-- An answer asks nothing more, so that it never exits: the law OwnEnds says so.
+abbrev pub stop_answered : ℕ → ℕ → Stepped → (Counted → Standstill) → Standstill
+stop_answered count steps (Moved v) more = more (at_count v (steps + count))
+stop_answered count steps (Exits event v) more = Waits event (at_count v (steps + count))
+stop_answered count steps (Stops end v) more = Ended end (at_count v (counted end steps))
 
 -- where a vCPU stops by itself, with so many steps left: it ends where none is
 abbrev pub next_of : ℕ → Counted → Standstill

@@ -1,19 +1,21 @@
 // How a guest goes on by itself, and once it is answered.
-ghost use Rattle.std.specs.Prelude.{◌≡◌, ◌-◌, ◌<◌, false};
+ghost use Rattle.std.specs.Prelude.{◌≡◌, ◌+◌, ◌-◌, ◌<◌, ◌≤◌};
 ghost use Rattle.x86_base.specs.Spelling.{IsSpelled};
 ghost use Rattle.image_file.specs.Image.{opening_ram};
-ghost use Rattle.event_table.specs.Events.{comes_later as is_later};
-ghost use Rattle.event_table.specs.Plan.{end_of as end_by};
+ghost use Rattle.event_table.specs.Lawful.{count_of};
+ghost use Rattle.event_table.specs.Plan.{Moved, end_of as end_by};
 ghost use Rattle.event_table.specs.Raising.{IsRaisable, step_raised};
 ghost use Rattle.guest_interp.specs.Stepping.{counted, next_within, results_of, start_of, step_of, stepped_by};
 ghost use Rattle.guest_interp.specs.declared.guest.Step.TheVariants as stepped;
-ghost use Rattle.guest_interp.specs.Guest.{IsAskedBy, IsInsnAt, IsLawfulStep, IsLawfulStop, IsStill, IsWaitedBy};
-ghost use Rattle.guest_interp.specs.Guest.{as_placed, as_stepped, as_stop, counted_vcpu, steps_placed, steps_then, vcpu_in};
+ghost use Rattle.guest_interp.specs.Guest.{IsAskedBy, IsAsking, IsLawfulStep, IsLawfulStop, IsStill, IsWaitedBy};
+ghost use Rattle.guest_interp.specs.Guest.{IsNamedBy, as_placed, as_stepped, as_stop, counted_vcpu};
+ghost use Rattle.guest_interp.specs.Guest.{steps_placed, steps_then, vcpu_in};
 
 use crate::fetching::fetch_into;
-use crate::stepping::attempt;
-use event_table::{Access, End, Event, Values, comes_later, is_event, place, raise};
+use crate::stepping::{Tried, attempt};
+use event_table::{End, Event, Reply, place, raise};
 use image_file::{Image, Ram};
+use string_io::place_block;
 use x86_base::{Flags, Insn, Reg, Regs, Stop as Stopped};
 
 /// The registers and the RAM of a vCPU, and the steps that it has counted.
@@ -29,8 +31,8 @@ pub struct Guest {
 pub enum Step {
     /// It is over.
     Goes,
-    /// It asks for an access.
-    Asks(Access),
+    /// It asks for the event that is then in its place.
+    Asks,
     /// It ends the vCPU.
     Ends(End),
 }
@@ -38,8 +40,8 @@ pub enum Step {
 /// Where a guest stops by itself.
 #[derive(Clone, Copy, Debug, PartialEq, Eq)]
 pub enum Stop {
-    /// It waits for the answer to an event.
-    Waits(Event),
+    /// It waits for the answer to the event that is then in its place.
+    Waits,
     /// It has ended.
     Ends(End),
 }
@@ -89,60 +91,68 @@ impl Guest {
         Step::Ends(end)
     }
 
-    /// One decoded instruction that isn't of those that exit for an access that comes later.
+    /// One decoded instruction, with the place of the event that it may ask for.
     #[inline(always)]
-    fn execute(&mut self, insn: &Insn) -> Step
+    fn execute(&mut self, insn: &Insn, event: &mut Event) -> Step
         requires counts { self.old.steps < u64.MAX }
         requires spelled { IsSpelled insn.now }
-        requires shown { is_later insn.now ≡ false }
-        ensures value { as_stepped result (vcpu_in self.new) ≡ stepped_by insn.now (vcpu_in self.old) }
+        ensures value { as_stepped result event.new (vcpu_in self.new) ≡ stepped_by insn.now (vcpu_in self.old) }
         ensures counted { self.new.steps ≡ steps_then result self.old.steps }
-        ensures lawful { IsLawfulStep result }
+        ensures lawful { IsLawfulStep result event.new }
         ensures still { IsStill result (vcpu_in self.old) (vcpu_in self.new) }
+        ensures named { IsNamedBy result event.new insn.now (vcpu_in self.new) }
     {
-        match attempt(&mut self.regs, &mut self.ram, insn) {
-            Ok(None) => {
+        match attempt(&mut self.regs, &mut self.ram, insn, event) {
+            Ok(Tried::Over) => {
                 self.steps += 1;
                 Step::Goes
             }
-            Ok(Some(access)) => Step::Asks(access),
+            Ok(Tried::Asks) => Step::Asks,
             Err(stop) => self.ends(end_of(stop)),
         }
     }
 
-    /// One instruction, whose place is handed in: the guest goes on, asks for an access with nothing
-    /// changed, or ends. Where it asks, the instruction that does is in its place.
+    /// One instruction, whose place is handed in, as is that of an event: the guest goes on, asks for an
+    /// event with nothing changed, or ends. Where it asks, the instruction that does and the event are in
+    /// their places; else what is in the event's place is unspecified.
     #[inline(always)]
-    pub fn step_once(&mut self, insn: &mut Insn) -> Step
+    pub fn step_once(&mut self, insn: &mut Insn, event: &mut Event) -> Step
         requires counts { self.old.steps < u64.MAX }
-        ensures value { as_stepped result (vcpu_in self.new) ≡ step_of (vcpu_in self.old) }
+        ensures value { as_stepped result event.new (vcpu_in self.new) ≡ step_of (vcpu_in self.old) }
         ensures counted { self.new.steps ≡ steps_then result self.old.steps }
-        ensures lawful { IsLawfulStep result }
-        ensures asked { IsAskedBy result insn.new (vcpu_in self.new) }
+        ensures lawful { IsLawfulStep result event.new }
+        ensures asked { IsAskedBy result event.new insn.new (vcpu_in self.new) }
     {
         if let Err(end) = fetch_into(&self.regs, &mut self.ram, insn) {
             return self.ends(end);
         }
-        if comes_later(insn) {
-            return self.ends(End::Undecoded);
-        }
-        self.execute(insn)
+        self.execute(insn, event)
     }
 
-    /// Puts the results of the access that the instruction at RIP asks in their places, which is one
-    /// step; or how it ends where it asks none, with nothing changed.
-    pub fn place_results(&mut self, insn: &Insn, values: &Values) -> Result<(), End>
-        requires counts { self.old.steps < u64.MAX }
-        requires there { IsInsnAt insn.now (vcpu_in self.old) }
-        ensures value { as_placed result (vcpu_in self.new) ≡ results_of values.now (vcpu_in self.old) }
-        ensures counted { self.new.steps ≡ steps_placed result self.old.steps }
+    /// Puts the reply to the event that the instruction at RIP asks in its places: each access is a step.
+    #[inline(always)]
+    pub fn place_results(&mut self, insn: &Insn, event: &Event, reply: &Reply)
+        requires counts { self.old.steps + count_of event.now ≤ u64.MAX }
+        requires asked { IsAsking insn.now event.now (vcpu_in self.old) }
+        ensures value { Moved (vcpu_in self.new) ≡ results_of reply.now (vcpu_in self.old) }
+        ensures counted { self.new.steps ≡ self.old.steps + count_of event.now }
     {
-        if !is_event(insn) {
-            return Err(End::Undecoded);
+        match event {
+            Event::One(_) => {
+                place(&mut self.regs, &mut self.ram, insn, &reply.values);
+                self.steps += 1;
+            }
+            Event::Many(block) => {
+                place_block(
+                    &mut self.regs,
+                    &mut self.ram,
+                    insn,
+                    block,
+                    reply.bytes.as_slice(),
+                );
+                self.steps += u64::from(block.count);
+            }
         }
-        place(&mut self.regs, &mut self.ram, insn, values);
-        self.steps += 1;
-        Ok(())
     }
 
     /// Goes on at the image's handler of an exception, which is one step; or how it ends where the
@@ -160,17 +170,18 @@ impl Guest {
         Ok(())
     }
 
-    /// Goes on until it asks for an access or has ended, within its budget of steps. Where it asks, the
-    /// instruction that does is in its place.
-    pub fn next(&mut self, insn: &mut Insn, budget: u64) -> Stop
-        ensures value { as_stop result (counted_vcpu self.new) ≡ next_within budget (counted_vcpu self.old) }
-        ensures lawful { IsLawfulStop result self.new.steps budget }
-        ensures waited { IsWaitedBy result insn.new (vcpu_in self.new) }
+    /// Goes on until it asks for an event or has ended, within its budget of steps. Where it asks, the
+    /// instruction that does and the event are in their places, which are handed in; else what is in the
+    /// event's place is unspecified.
+    pub fn next(&mut self, insn: &mut Insn, event: &mut Event, budget: u64) -> Stop
+        ensures value { as_stop result event.new (counted_vcpu self.new) ≡ next_within budget (counted_vcpu self.old) }
+        ensures lawful { IsLawfulStop result event.new self.new.steps budget }
+        ensures waited { IsWaitedBy result event.new insn.new (vcpu_in self.new) }
     {
         while self.steps < budget {
-            match self.step_once(insn) {
+            match self.step_once(insn, event) {
                 Step::Goes => {}
-                Step::Asks(access) => return Stop::Waits(Event::One(access)),
+                Step::Asks => return Stop::Waits,
                 Step::Ends(end) => return Stop::Ends(end),
             }
         }

@@ -1,9 +1,10 @@
 // The private step.
-ghost use Rattle.std.specs.Prelude.{◌≡◌, false, is_some, IfSome, None, OnErr};
+ghost use Rattle.std.specs.Prelude.{◌≡◌, true, false, is_some, IfSome, None, OnErr};
 ghost use Rattle.x86_base.specs.Spelling.{IsSpelled};
 ghost use Rattle.insn_decode.specs.Laws.{HasCondition};
-ghost use Rattle.event_table.specs.Events.{asked_by, comes_later, kind_at};
-ghost use Rattle.event_table.specs.Lawful.{IsLawfulAccess};
+ghost use Rattle.event_table.specs.Elements.{is_string as is_string_op};
+ghost use Rattle.event_table.specs.Events.{asked_apart, asked_by, kind_at};
+ghost use Rattle.event_table.specs.Lawful.{IsLawfulEvent};
 ghost use Rattle.event_table.specs.Places.{vcpu};
 ghost use Rattle.event_table.specs.Plan.{Does};
 ghost use Rattle.guest_interp.specs.Guest.{IsUntouched, asked_in, tried};
@@ -16,9 +17,12 @@ use crate::jumps::{cmc, jmp, jump_if, nop, put_carry, put_direction};
 use crate::moves::{lea, mov, movsx, movzx};
 use crate::stack::{call, iretq, pop, push, ret};
 use alu_ops::AluOp;
-use event_table::{Access, is_event, kind_of, named, row_of};
+use event_table::{
+    Access, Event, following, is_event, is_string, kind_of_event, left, named, pointer, row_of,
+};
 use image_file::Ram;
 use insn_decode::laws::conditions;
+use string_io::block;
 use x86_base::{Insn, Op, Regs, Stop};
 
 /// What one instruction comes to.
@@ -26,10 +30,19 @@ use x86_base::{Insn, Op, Regs, Stop};
 pub enum Next {
     /// It is over.
     Went,
-    /// It asks for an access; the exit code with which #VC is raised (APM volume 2, appendix C).
+    /// It asks for an event; the exit code with which #VC is raised (APM volume 2, appendix C).
     Vc(u64),
     /// It ends the vCPU.
     Ended(Stop),
+}
+
+/// What one instruction comes to that doesn't stop the vCPU.
+#[derive(Clone, Copy, Debug, PartialEq, Eq)]
+pub enum Tried {
+    /// It is over.
+    Over,
+    /// It asks for the event that is then in its place.
+    Asks,
 }
 
 /// The operation of an instruction that calculates.
@@ -62,7 +75,7 @@ fn operation(op: Op) -> Option<AluOp>
 #[inline(always)]
 fn private_other(regs: &mut Regs, ram: &mut Ram, insn: &Insn) -> Result<(), Stop>
     requires condition { HasCondition insn.now.op }
-    requires shown { comes_later insn.now ≡ false }
+    requires string { is_string_op insn.now.op ≡ false }
     requires operation { alu_op_of insn.now.op ≡ None }
     requires private { kind_at insn.now.op insn.now.width 0 ≡ None }
     ensures done { Does result regs.old ram.old regs.new ram.new insn.now (other_of insn.now.op insn.now) }
@@ -98,7 +111,7 @@ fn private_other(regs: &mut Regs, ram: &mut Ram, insn: &Insn) -> Result<(), Stop
 #[inline(always)]
 fn private(regs: &mut Regs, ram: &mut Ram, insn: &Insn) -> Result<(), Stop>
     requires condition { HasCondition insn.now.op }
-    requires shown { comes_later insn.now ≡ false }
+    requires string { is_string_op insn.now.op ≡ false }
     requires private { kind_at insn.now.op insn.now.width 0 ≡ None }
     ensures done { Does result regs.old ram.old regs.new ram.new insn.now (private_of insn.now) }
     ensures kept { OnErr result (vcpu regs.new ram.new ≡ vcpu regs.old ram.old) }
@@ -109,38 +122,68 @@ fn private(regs: &mut Regs, ram: &mut Ram, insn: &Insn) -> Result<(), Stop>
     }
 }
 
-/// What one instruction, which was decoded at RIP, comes to: none where it is over, the access that it
-/// asks for, or how it stops the vCPU. Nothing changes but where it is over.
+/// A string instruction: it asks for its next block, is over where REP finds RCX 0, or stops the vCPU at
+/// its first element.
+#[inline(never)]
+fn string(regs: &mut Regs, ram: &Ram, insn: &Insn, event: &mut Event) -> Result<Tried, Stop>
+    requires string { is_string_op insn.now.op ≡ true }
+    ensures done { tried result event.new (vcpu regs.new ram.now) ≡ stepped_by insn.now (vcpu regs.old ram.now) }
+    ensures named { asked_in result event.new ≡ asked_by insn.now (vcpu regs.old ram.now) }
+    ensures lawful { IfSome (asked_in result event.new) IsLawfulEvent }
+    ensures untouched { IsUntouched result (vcpu regs.old ram.now) (vcpu regs.new ram.now) }
+{
+    if let Some(block) = block(regs, ram, insn) {
+        *event = Event::Many(block);
+        return Ok(Tried::Asks);
+    }
+    if left(regs, insn) == 0 {
+        regs.rip = following(regs, insn);
+        return Ok(Tried::Over);
+    }
+    Err(Stop::BadAddress(regs.get(pointer(insn))))
+}
+
+/// What one instruction, which was decoded at RIP, comes to: it is over, asks for the event that is then
+/// in the place handed in, or stops the vCPU. Nothing else changes but where it is over.
 #[inline(always)]
-pub fn attempt(regs: &mut Regs, ram: &mut Ram, insn: &Insn) -> Result<Option<Access>, Stop>
+pub fn attempt(
+    regs: &mut Regs,
+    ram: &mut Ram,
+    insn: &Insn,
+    event: &mut Event,
+) -> Result<Tried, Stop>
     requires spelled { IsSpelled insn.now }
-    requires shown { comes_later insn.now ≡ false }
-    ensures done { tried result (vcpu regs.new ram.new) ≡ stepped_by insn.now (vcpu regs.old ram.old) }
-    ensures named { asked_in result ≡ asked_by insn.now (vcpu regs.old ram.old) }
-    ensures lawful { IfSome (asked_in result) IsLawfulAccess }
+    ensures done { tried result event.new (vcpu regs.new ram.new) ≡ stepped_by insn.now (vcpu regs.old ram.old) }
+    ensures named { asked_in result event.new ≡ asked_by insn.now (vcpu regs.old ram.old) }
+    ensures lawful { IfSome (asked_in result event.new) IsLawfulEvent }
     ensures untouched { IsUntouched result (vcpu regs.old ram.old) (vcpu regs.new ram.new) }
 {
+    if is_string(insn) {
+        return string(regs, ram, insn, event);
+    }
     if is_event(insn)
         && let Some(access) = named(regs, ram, insn)
     {
-        return Ok(Some(access));
+        event.set_access(access);
+        return Ok(Tried::Asks);
     }
     conditions();
     private(regs, ram, insn)?;
-    Ok(None)
+    Ok(Tried::Over)
 }
 
-/// One instruction, which was decoded at RIP. `Vc` comes exactly where it asks for an access, `Ended`
-/// where it ends the vCPU; nothing changes in either case.
+/// One instruction, which was decoded at RIP. `Vc` comes exactly where it asks for an event, which is where
+/// `named` gives an access, and `Ended` where it ends the vCPU; nothing changes in either case.
 pub fn step(regs: &mut Regs, ram: &mut Ram, insn: &Insn) -> Next
     requires spelled { IsSpelled insn.now }
-    requires shown { comes_later insn.now ≡ false }
     ensures comes { Comes result insn.now (vcpu regs.old ram.old) (vcpu regs.new ram.new) }
     ensures named { is_vc result ≡ is_some (asked_by insn.now (vcpu regs.old ram.old)) }
+    ensures accessed { is_vc result ≡ is_some (asked_apart insn.now (vcpu regs.old ram.old)) }
 {
-    match attempt(regs, ram, insn) {
-        Ok(None) => Next::Went,
-        Ok(Some(access)) => Next::Vc(row_of(&kind_of(&access)).code),
+    let mut event = Event::One(Access::Wbinvd);
+    match attempt(regs, ram, insn, &mut event) {
+        Ok(Tried::Over) => Next::Went,
+        Ok(Tried::Asks) => Next::Vc(row_of(&kind_of_event(&event)).code),
         Err(stop) => Next::Ended(stop),
     }
 }

@@ -1,11 +1,12 @@
 // Short guests, instruction by instruction.
-use crate::{Next, fetch, step};
-use event_table::{Access, End, Values, comes_later, named, place, raise};
+use crate::guest::Stop as Stops;
+use crate::{Guest, Next, fetch, fixture, step};
+use event_table::{Access, Bytes, End, Event, Reply, Values, named, place, raise};
 use image_file::Ram;
 use image_samples::sample_image;
 use std::alloc::Global;
 use std::test::Fail;
-use x86_base::{Flags, Insn, Reg, Regs, Stop};
+use x86_base::{Flags, Insn, Operand, Reg, Regs, Stop, Width};
 
 /// What a guest comes to after some instructions.
 #[derive(Drop)]
@@ -43,9 +44,6 @@ fn go_on(gone: &mut Gone, most: u64) {
         let Ok(insn) = fetch(&gone.regs, &gone.ram) else {
             return;
         };
-        if comes_later(&insn) {
-            return;
-        }
         match step(&mut gone.regs, &mut gone.ram, &insn) {
             Next::Went => gone.steps = gone.steps.wrapping_add(1),
             Next::Vc(_) => return,
@@ -76,9 +74,6 @@ const SEVENS: Values = Values {
 /// The instruction at RIP, the code of its #VC, and what it asks.
 fn asked(gone: &mut Gone) -> Option<(Insn, Next, Access)> {
     let insn = fetch(&gone.regs, &gone.ram).ok()?;
-    if comes_later(&insn) {
-        return None;
-    }
     let next = step(&mut gone.regs, &mut gone.ram, &insn);
     let access = named(&gone.regs, &gone.ram, &insn)?;
     Some((insn, next, access))
@@ -407,5 +402,193 @@ fn the_end_of_the_code_is_no_instruction(rt: HostRuntime) -> Result<(), Fail> {
         };
         assert_eq!(rt; fetch(&regs, &ram).err(), Some(end));
     }
+    Ok(())
+}
+
+/// A guest of this code, which is at its start.
+fn started(alloc: Global, code: &[u8]) -> Result<Guest, Fail> {
+    let image = sample_image(alloc, code, 0, 0)?;
+    Ok(Guest::start(&image, 0, image.ram(alloc)?))
+}
+
+/// The reply to a block, with these bytes.
+fn reply_of(given: &[u8]) -> Reply {
+    let mut bytes = Bytes::new();
+    for byte in given.iter().take(2032) {
+        if bytes.as_slice().len() < 2032 {
+            bytes.push(*byte);
+        }
+    }
+    Reply {
+        values: SEVENS,
+        bytes,
+    }
+}
+
+/// The port, the size, the count and the number of shown bytes of the block that a guest comes to, which
+/// is then answered with these bytes; or how it ends.
+fn exchange(guest: &mut Guest, budget: u64, given: &[u8]) -> Result<(u16, u8, u16, usize), End> {
+    let mut insn = fixture::insn(Width::B8, Operand::Absent, Operand::Absent);
+    let mut event = Event::One(Access::Wbinvd);
+    match guest.next(&mut insn, &mut event, budget) {
+        Stops::Ends(end) => Err(end),
+        Stops::Waits => {
+            if guest.steps < 0x1_0000 {
+                guest.place_results(&insn, &event, &reply_of(given));
+            }
+            match event {
+                Event::One(_) => Ok((0, 0, 1, 0)),
+                Event::Many(block) => {
+                    Ok((
+                        block.port,
+                        block.size,
+                        block.count,
+                        block.bytes.as_slice().len(),
+                    ))
+                }
+            }
+        }
+    }
+}
+
+#[test]
+fn a_rep_outsb_is_asked_in_blocks_of_the_buffer(rt: HostRuntime) -> Result<(), Fail> {
+    // MOV ESI, 12h; MOV ECX, 7F1h; MOV EDX, 3F8h; REP OUTSB; HLT
+    let code = [
+        0xBE, 0x12, 0, 0, 0, 0xB9, 0xF1, 7, 0, 0, 0xBA, 0xF8, 3, 0, 0, 0xF3, 0x6E, 0xF4,
+    ];
+    let mut guest = started(rt.alloc(), &code)?;
+    assert_eq!(rt;
+        exchange(&mut guest, 10000, &[]),
+        Ok((0x3F8, 1, 2032, 2032))
+    );
+    assert_eq!(rt; (guest.steps, guest.regs.rip), (2035, 15));
+    assert_eq!(rt; guest.regs.gpr[..3], [0, 1, 0x3F8][..]);
+    assert_eq!(rt; guest.regs.get(Reg::Rsi), 0x802);
+    assert_eq!(rt; exchange(&mut guest, 10000, &[]), Ok((0x3F8, 1, 1, 1)));
+    assert_eq!(rt; exchange(&mut guest, 10000, &[]), Err(End::Halted));
+    assert_eq!(rt; (guest.steps, guest.regs.get(Reg::Rcx)), (2037, 0));
+    // A block is asked below the budget, which its steps pass.
+    let mut spent = started(rt.alloc(), &code)?;
+    assert_eq!(rt; exchange(&mut spent, 4, &[]), Ok((0x3F8, 1, 2032, 2032)));
+    assert_eq!(rt; exchange(&mut spent, 4, &[]), Err(End::Spent));
+    assert_eq!(rt; spent.steps, 2035);
+    Ok(())
+}
+
+#[test]
+fn rep_with_no_count_is_private(rt: HostRuntime) -> Result<(), Fail> {
+    // REP OUTSB; HLT
+    let mut none = started(rt.alloc(), &[0xF3, 0x6E, 0xF4])?;
+    assert_eq!(rt; exchange(&mut none, 100, &[]), Err(End::Halted));
+    assert_eq!(rt; none.steps, 2);
+    // MOV EDI, 9; REP INSB; INSB; HLT: without REP there is one element
+    let code = [0xBF, 9, 0, 0, 0, 0xF3, 0x6C, 0x6C, 0xF4];
+    let mut one = started(rt.alloc(), &code)?;
+    assert_eq!(rt; exchange(&mut one, 100, &[0xFF]), Ok((0, 1, 1, 0)));
+    assert_eq!(rt; one.ram.read(9, 2).unwrap_or(0), 0xFF);
+    assert_eq!(rt; (one.regs.get(Reg::Rdi), one.regs.get(Reg::Rcx)), (10, 0));
+    assert_eq!(rt; exchange(&mut one, 100, &[]), Err(End::Halted));
+    assert_eq!(rt; one.steps, 4);
+    Ok(())
+}
+
+#[test]
+fn the_size_of_an_element_is_by_the_prefixes(rt: HostRuntime) -> Result<(), Fail> {
+    // MOV ESI, 800h; MOV EDI, 800h; INS or OUTS with 66, with REX.W and with both; HLT
+    let rows: [(&[u8], u8); 8] = [
+        (&[0x6C], 1),
+        (&[0x48, 0x6C], 1),
+        (&[0x6D], 4),
+        (&[0x66, 0x6D], 2),
+        (&[0x48, 0x6D], 4),
+        (&[0x66, 0x48, 0x6F], 4),
+        (&[0x66, 0x6F], 2),
+        (&[0x48, 0x6E], 1),
+    ];
+    for (bytes, size) in rows {
+        let mut code = [0xBE, 0, 8, 0, 0, 0xBF, 0, 8, 0, 0]
+            .as_slice()
+            .to_vec(rt.alloc())?;
+        code.extend_from_slice(bytes)?;
+        code.push(0xF4)?;
+        let mut guest = started(rt.alloc(), &code)?;
+        let input = bytes.last().is_some_and(|opcode| *opcode < 0x6E);
+        let shown = if input { 0 } else { usize::from(size) };
+        assert_eq!(rt; exchange(&mut guest, 100, &[]), Ok((0, size, 1, shown)));
+        let moved = u64::from(size);
+        let (rsi, rdi) = if input { (0, moved) } else { (moved, 0) };
+        assert_eq!(rt;
+            (guest.regs.get(Reg::Rsi), guest.regs.get(Reg::Rdi)),
+            (0x800 + rsi, 0x800 + rdi)
+        );
+        assert_eq!(rt; exchange(&mut guest, 100, &[]), Err(End::Halted));
+    }
+    Ok(())
+}
+
+#[test]
+fn an_element_past_ram_ends_the_guest_in_both_directions(rt: HostRuntime) -> Result<(), Fail> {
+    // MOV ESI, address; MOV EDI, address; MOV ECX, 9; CLD or STD; REP OUTSW or REP INSW
+    let rows = [
+        (0xFFC, 0xFC, 0x6F, 2, 0x1000),
+        (0xFFC, 0xFC, 0x6D, 2, 0x1000),
+        (2, 0xFD, 0x6F, 2, 0xFFFF_FFFF_FFFF_FFFE),
+        (0x1A, 0xFD, 0x6D, 2, 0x16),
+    ];
+    for (at, direction, opcode, count, end) in rows {
+        let [low, high, ..] = u32::to_le_bytes(at);
+        let code = [
+            0xBE, low, high, 0, 0, 0xBF, low, high, 0, 0, 0xB9, 9, 0, 0, 0, direction, 0xF3, 0x66,
+            opcode, 0x90, 0x90, 0x90, 0xF4, 0xF4,
+        ];
+        let mut guest = started(rt.alloc(), &code)?;
+        let shown = if opcode == 0x6F {
+            2 * usize::from(count)
+        } else {
+            0
+        };
+        assert_eq!(rt; exchange(&mut guest, 100, &[]), Ok((0, 2, count, shown)));
+        assert_eq!(rt; (guest.regs.get(Reg::Rcx), guest.regs.rip), (7, 16));
+        assert_eq!(rt; exchange(&mut guest, 100, &[]), Err(End::BadAddress(end)));
+        assert_eq!(rt; guest.steps, 6);
+    }
+    Ok(())
+}
+
+#[test]
+fn elements_of_code_bytes_end_the_guest(rt: HostRuntime) -> Result<(), Fail> {
+    // MOV EDI, 18h; STD; MOV ECX, 3; MOV EDX, 500h; REP INSD; HLT: the third element has bytes of the code
+    let code = [
+        0xBF, 0x18, 0, 0, 0, 0xFD, 0xB9, 3, 0, 0, 0, 0xBA, 0, 5, 0, 0, 0xF3, 0x6D, 0xF4,
+    ];
+    let mut guest = started(rt.alloc(), &code)?;
+    let given = [0x22, 0x22, 0x22, 0x22, 0x11, 0x11, 0x11, 0x11];
+    assert_eq!(rt; exchange(&mut guest, 100, &given), Ok((0x500, 4, 2, 0)));
+    assert_eq!(rt; guest.ram.read(0x14, 8).unwrap_or(0), 0x2222_2222_1111_1111);
+    assert_eq!(rt;
+        (guest.regs.get(Reg::Rcx), guest.regs.get(Reg::Rdi)),
+        (1, 0x10)
+    );
+    assert_eq!(rt; guest.regs.rip, 16);
+    assert_eq!(rt; exchange(&mut guest, 100, &[]), Err(End::BadAddress(0x10)));
+    assert_eq!(rt; guest.steps, 6);
+    Ok(())
+}
+
+#[test]
+fn string_io_exits_with_the_code_of_port_io(rt: HostRuntime) -> Result<(), Fail> {
+    // OUTSB, and OUTSB at an address past RAM
+    let ram = ram_of(rt.alloc(), &[0x6E])?;
+    let mut gone = opened(ram, 2);
+    let Ok(insn) = fetch(&gone.regs, &gone.ram) else {
+        return Err(Fail::new("no instruction"));
+    };
+    assert_eq!(rt; step(&mut gone.regs, &mut gone.ram, &insn), Next::Vc(0x7B));
+    gone.regs.gpr[6] = 0x1000;
+    assert_eq!(rt;
+        step(&mut gone.regs, &mut gone.ram, &insn),
+        Next::Ended(Stop::BadAddress(0x1000))
+    );
     Ok(())
 }

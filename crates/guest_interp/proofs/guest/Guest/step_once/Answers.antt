@@ -1,29 +1,19 @@
-use Rattle.std.proofs.Common.{rules, ◌≡◌, Ok, sym, ap, ◌∙◌}
+use Rattle.std.proofs.Common.{rules, ◌≡◌, Ok, ap, ◌∙◌}
 use Rattle.guest_interp.specs.Stepping.{insn_at, stepped_by}
-use Rattle.event_table.specs.declared.end.End.TheVariants.{Undecoded}
 use Rattle.image_file.specs.Ram.{Memory}
 use Rattle.event_table.specs.Places.{Vcpu, vcpu}
 use Rattle.event_table.specs.Plan.{Stops}
 use Rattle.guest_interp.specs.declared.guest.Step.{Step}
 use Rattle.guest_interp.specs.Guest.{as_stepped, vcpu_in}
-use Rattle.guest_interp.proofs.Going.{none_there, one_there, later_ends}
+use Rattle.guest_interp.proofs.Going.{none_there, one_there}
 use Rattle.guest_interp.proofs.guest.Guest.step_once.Goals as goal
 
 pub returns-in-Err-clause-value : goal.returns-in-Err-clause-value
 returns-in-Err-clause-value c =
-    ap (λ (s : Step). as_stepped s (vcpu_in c.ends.new.self)) c.ends.ensures.end
+    ap (λ (s : Step). as_stepped s c.args.event.now (vcpu_in c.ends.new.self)) c.ends.ensures.end
     ∙ ap (λ (v : Vcpu). Stops c.in-Err.end v) c.ends.ensures.still
     ∙ ap (λ (m : Memory). Stops c.in-Err.end (vcpu c.args.self.now.regs m)) c.fetch_into.ensures.same
     ∙ none_there (vcpu_in c.args.self.now) c.in-Err.end c.in-Err.ensures.insn
-
-pub returns-then-comes_later-clause-value : goal.returns-then-comes_later-clause-value
-returns-then-comes_later-clause-value c =
-    let there : Ok c.fetch_into.new.into ≡ insn_at c.args.self.now.ram c.args.self.now.regs.rip = search rules in
-    ap (λ (s : Step). as_stepped s (vcpu_in c.ends-then-comes_later.new.self)) c.ends-then-comes_later.ensures.end
-    ∙ ap (λ (v : Vcpu). Stops Undecoded v) c.ends-then-comes_later.ensures.still
-    ∙ ap (λ (m : Memory). Stops Undecoded (vcpu c.args.self.now.regs m)) c.fetch_into.ensures.same
-    ∙ later_ends (vcpu_in c.args.self.now) c.fetch_into.new.into (sym c.comes_later.ensures.value ∙ c.if-comes_later.true)
-    ∙ one_there (vcpu_in c.args.self.now) c.fetch_into.new.into there
 
 pub returns-clause-value : goal.returns-clause-value
 returns-clause-value c =
