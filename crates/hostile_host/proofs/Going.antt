@@ -4,14 +4,13 @@ use Rattle.page_words.specs.declared.item.Item.TheVariants.{Exit}
 use Rattle.page_words.specs.Told.{store}
 use Rattle.page_words.specs.Dialogue.{values_of}
 use Rattle.event_table.specs.declared.event.Event.{Event}
-use Rattle.event_table.specs.declared.event.Event.TheVariants.{One}
 use Rattle.event_table.specs.Plan.{Stepped, Moved, Exits, Stops}
-use Rattle.event_table.specs.Rows.{event_row, kind_of, registers_of}
+use Rattle.event_table.specs.Rows.{event_row, kind_of_event}
 use Rattle.guest_interp.specs.Stepping.{Counted, at_count, step_of, Standstill, Waits, Ended, stop_after, next_of, next_within}
 use Rattle.ghcb_layout.specs.Address.{ghcb_of}
-use Rattle.vc_handler.specs.Wire.{wire, stored_words}
-use Rattle.vcpu_core.specs.declared.phase.Phase.{Phase}
-use Rattle.vcpu_core.specs.declared.phase.Phase.TheVariants as phase
+use Rattle.vc_handler.specs.Wire.{bytes_shown, registers_shown, wire, stored_words}
+use Rattle.vcpu_core.specs.Phase.{Phase}
+use Rattle.vcpu_core.specs.Phase as phase
 use Rattle.vcpu_core.specs.Running.{items_said_by, items_said_at}
 
 values_of-stores : (words : List (ℕ × ℕ)) (msr : ℕ) → values_of (map store words ++ Exit msr ∷ []) ≡ []
@@ -20,7 +19,7 @@ values_of-stores (word ∷ words) msr = values_of-stores words msr
 
 -- nothing comes out while an event is shown
 pub values_of-wire : (i : ℕ) (event : Event) → values_of (wire i event) ≡ []
-values_of-wire i (One access) = values_of-stores (stored_words (event_row (kind_of access)) (registers_of access)) (ghcb_of i)
+values_of-wire i event = values_of-stores (stored_words (ghcb_of i) (event_row (kind_of_event event)) (registers_shown event) (bytes_shown event)) (ghcb_of i)
 
 values_of-said_at : (i : ℕ) (stop : Standstill) → values_of (items_said_at i stop) ≡ []
 values_of-said_at i (Waits event c) = values_of-wire i event
@@ -55,5 +54,9 @@ next_of_within (suc left) budget c fits =
     let fewer : d.steps + left ≤ budget = omega (arith, counted) in
     subst (λ low. IsWithin low budget (next_of left d)) counted (next_of_within left budget d fewer))
 
-pub next_stands : (budget : ℕ) (c : Counted) → c.steps ≤ budget → IsWithin c.steps budget (next_within budget c)
-next_stands budget c fits = next_of_within (budget - c.steps) budget c (omega arith)
+left_stands : (left budget : ℕ) (c : Counted) → left ≡ budget - c.steps → IsWithin c.steps budget (next_of left c)
+left_stands zero budget c is = tt
+left_stands (suc left) budget c is = next_of_within (suc left) budget c (omega (arith, is))
+
+pub next_stands : (budget : ℕ) (c : Counted) → IsWithin c.steps budget (next_within budget c)
+next_stands budget c = left_stands (budget - c.steps) budget c refl

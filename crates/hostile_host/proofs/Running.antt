@@ -10,11 +10,11 @@ use Rattle.page_words.proofs.Same.{AllOf, goes_all}
 use Rattle.image_file.specs.Image.{Contents}
 use Rattle.event_table.specs.declared.end.End.{End}
 use Rattle.guest_interp.specs.Stepping.{Counted, start_of}
-use Rattle.vcpu_core.specs.declared.phase.Phase.{Phase}
-use Rattle.vcpu_core.specs.declared.phase.Phase.TheVariants as phase
+use Rattle.vcpu_core.specs.Phase.{Phase}
+use Rattle.vcpu_core.specs.Phase as phase
 use Rattle.vcpu_core.specs.declared.vcpu.Progress.{Progress}
 use Rattle.vcpu_core.specs.declared.vcpu.Progress.TheVariants.{Exited}
-use Rattle.vcpu_core.specs.State.{State, state, end_in, is_waiting}
+use Rattle.vcpu_core.specs.State.{IsLawfulPhase, State, state, end_in, is_waiting}
 use Rattle.vcpu_core.specs.Running.{state_advanced, items_said, progress_in}
 use Rattle.vcpu_core.specs.Resuming.{resuming, resuming_by}
 use Rattle.hostile_host.specs.Answered.{Ran, run_of}
@@ -106,17 +106,19 @@ standing : (p : Phase) (left events : ℕ) (image : Contents) (budget : ℕ) (c 
     IsStanding p events image budget c × (left_by p budget c.steps < left)
 standing phase.New left events image budget c goes rests none = absurd goes
 standing phase.Asked left events image budget c goes rests none = cc
-standing phase.Going left events image budget c goes rests none = ((goes.0, goes.1), goes.2)
+standing phase.Going left events image budget c goes rests none = (goes.0, goes.1)
 standing (phase.Waits event) left events image budget c goes rests none = cc
 standing (phase.Ended end) left events image budget c goes rests none = cc
 
 -- one more turn
 pub leads_on : (image : Contents) (budget : ℕ) (s next : State) (old now new : Told) → Leads image budget s old now → Runs (turn_dialogue image budget s) next now new →
+    IsLawfulPhase (state_advanced budget s).phase →
     is_waiting next.phase ≡ false → is_some (end_in next.phase) ≡ false → Leads image budget next old new × (left_by next.phase budget next.cpu.steps < left_by s.phase budget s.cpu.steps)
-leads_on image budget s next old now new leads turn rests none =
+leads_on image budget s next old now new leads turn lawful rests none =
     let all : AllOf (IsNext (left_by s.phase budget s.cpu.steps) (less_one leads.events) budget) (turn_dialogue image budget s) =
     subst (λ i. AllOf (IsNext (left_by s.phase budget s.cpu.steps) (less_one leads.events) budget) (turn_dialogue image budget (state i s.cpu s.phase))) (sym leads.number)
-    (turn_next s.phase leads.events image budget s.cpu leads.stands) in
+    (turn_next s.phase leads.events image budget s.cpu leads.stands
+    (subst (λ i. IsLawfulPhase (state_advanced budget (state i s.cpu s.phase)).phase) leads.number lawful)) in
     let is_next = goes_all (IsNext (left_by s.phase budget s.cpu.steps) (less_one leads.events) budget) (turn_dialogue image budget s) turn.items next all turn.goes in
     let stands = standing next.phase _ (less_one leads.events) image budget next.cpu is_next.1 rests none in (
       record {

@@ -6,8 +6,10 @@ use Rattle.image_file.specs.Image.{Contents}
 use Rattle.event_table.specs.declared.end.End.{End}
 use Rattle.event_table.specs.declared.end.End.TheVariants.{Spent, Terminated}
 use Rattle.event_table.specs.declared.end.Reason.{Reason}
+use Rattle.event_table.specs.declared.event.Event.{Event}
 use Rattle.event_table.specs.declared.outcome.Outcome.{Outcome}
 use Rattle.event_table.specs.declared.outcome.Outcome.TheVariants.{Done, Raise, Terminate}
+use Rattle.event_table.specs.Lawful.{count_of}
 use Rattle.guest_interp.specs.Stepping.{Counted, results_of, Standstill, Waits, Ended, stop_answered, next_within, start_of}
 use Rattle.vc_handler.specs.Accept.{accepting}
 use Rattle.vc_handler.specs.Version.{farewell, negotiating, question}
@@ -23,13 +25,14 @@ pub record Ran : Type 0 where
 abbrev pub part_with : {X : Type 0} → Reason → X → Dialogue X
 part_with reason x = say (Exit (farewell reason) ∷ []) (over x)
 
--- Where it stops next, by the outcome of its event: the results are placed, an exception is delivered, or it ends.
-abbrev pub stop_heard : Contents → ℕ → Counted → Outcome → Dialogue Standstill
-stop_heard image budget c (Done reply) =
-    over (stop_answered c.steps (results_of reply.values c.vcpu) (λ gone. next_within budget gone))
-stop_heard image budget c (Raise vector code) =
-    over (stop_answered c.steps (step_raised image vector code c.vcpu) (λ gone. next_within budget gone))
-stop_heard image budget c (Terminate reason) = part_with reason (Ended (Terminated reason) c)
+-- Where it stops next, by the outcome of its event: the results are placed, each access a step; an exception is delivered,
+-- which is one step; or it ends.
+abbrev pub stop_heard : Contents → ℕ → Counted → Event → Outcome → Dialogue Standstill
+stop_heard image budget c event (Done reply) =
+    over (stop_answered (count_of event) c.steps (results_of reply c.vcpu) (λ gone. next_within budget gone))
+stop_heard image budget c event (Raise vector code) =
+    over (stop_answered 1 c.steps (step_raised image vector code c.vcpu) (λ gone. next_within budget gone))
+stop_heard image budget c event (Terminate reason) = part_with reason (Ended (Terminated reason) c)
 
 -- From where it stops, so many events at most: each is shown, and its reply listened to. An event takes a step or ends
 -- the run, so there are never more than the budget.
@@ -38,7 +41,7 @@ events_of events image budget (Ended end c) = over (record { cpu = c; end = end 
 events_of zero image budget (Waits event c) = over (record { cpu = c; end = Spent })
 events_of (suc events) image budget (Waits event c) =
     say (wire 0 event) (listen (accepting event) (λ outcome.
-    stop_heard image budget c outcome >>= (λ stop. events_of events image budget stop)))
+    stop_heard image budget c event outcome >>= (λ stop. events_of events image budget stop)))
 
 -- after the host's versions: it goes to its first event, or parts before its first step
 abbrev pub run_agreed_from : Counted → Contents → ℕ → Result ℕ Reason → Dialogue Ran

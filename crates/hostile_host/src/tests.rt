@@ -196,3 +196,110 @@ fn a_script_that_is_cut_agrees_up_to_the_cut(rt: HostRuntime) -> Result<(), Fail
     }
     Ok(())
 }
+
+/// MOV ESI, 3; MOV ECX, 9; MOV EDX, 3F8h; REP OUTSB; HLT.
+const PRINTS_BLOCK: [u8; 18] = [
+    0xBE, 3, 0, 0, 0, 0xB9, 9, 0, 0, 0, 0xBA, 0xF8, 3, 0, 0, 0xF3, 0x6E, 0xF4,
+];
+
+/// MOV EDI, 100h; MOV ECX, 9; MOV EDX, 3F8h; REP INSB; HLT.
+const READS_BLOCK: [u8; 18] = [
+    0xBF, 0, 1, 0, 0, 0xB9, 9, 0, 0, 0, 0xBA, 0xF8, 3, 0, 0, 0xF3, 0x6C, 0xF4,
+];
+
+/// What the guest that prints nine of its own bytes makes up to its exit.
+fn printed_block() -> [Item; 14] {
+    [
+        Item::Exit(2),
+        Item::Msr(VERSION_1),
+        store(126, 0),
+        store(127, 0),
+        store(114, 0x7B),
+        store(115, 0x03F8_0E1C),
+        store(116, 9),
+        store(117, 0x8000_0800),
+        store(256, 0xBA00_0000_09B9_0000),
+        store(257, 0xF8),
+        store(126, 0),
+        store(127, 0x003C_0000_0000_0000),
+        store(511, 0x1_0000),
+        Item::Exit(0x8000_0000),
+    ]
+}
+
+/// What a guest that reads a block makes up to its exit, where its event has these words.
+fn asked_block(info: u64, count: u64) -> [Item; 12] {
+    [
+        Item::Exit(2),
+        Item::Msr(VERSION_1),
+        store(126, 0),
+        store(127, 0),
+        store(114, 0x7B),
+        store(115, info),
+        store(116, count),
+        store(117, 0x8000_0800),
+        store(126, 0),
+        store(127, 0x003C_0000_0000_0000),
+        store(511, 0x1_0000),
+        Item::Exit(0x8000_0000),
+    ]
+}
+
+#[test]
+fn a_block_of_output_hears_its_status_alone(rt: HostRuntime) -> Result<(), Fail> {
+    let run = run_over(rt.alloc(), &PRINTS_BLOCK, &[VERSION_1])?;
+    assert!(rt; are(run.page.items(), &printed_block(), &[load(115, 0)]));
+    assert_eq!(rt; run.vcpu.end(), Some(End::Halted));
+    assert_eq!(rt; run.vcpu.steps(), 13);
+    assert_eq!(rt; run.vcpu.regs().get(Reg::Rsi), 12);
+    assert_eq!(rt; run.vcpu.regs().get(Reg::Rcx), 0);
+    Ok(())
+}
+
+#[test]
+fn an_exception_in_the_place_of_a_block_is_a_fault(rt: HostRuntime) -> Result<(), Fail> {
+    let run = run_over(rt.alloc(), &PRINTS_BLOCK, &[VERSION_1, 1, 0x8000_0B0D])?;
+    let last = [load(115, 1), load(116, 0x8000_0B0D)];
+    assert!(rt; are(run.page.items(), &printed_block(), &last));
+    assert_eq!(rt; run.vcpu.end(), Some(End::Fault(13)));
+    assert_eq!(rt; run.vcpu.steps(), 3);
+    assert_eq!(rt; run.vcpu.regs().get(Reg::Rcx), 9);
+    Ok(())
+}
+
+#[test]
+fn a_block_of_input_hears_neither_a_count_nor_a_scratch_address(
+    rt: HostRuntime,
+) -> Result<(), Fail> {
+    let words = [VERSION_1, 0, 0x0807_0605_0403_0201, 0xFFFF_FFFF_FFFF_FF09];
+    let run = run_over(rt.alloc(), &READS_BLOCK, &words)?;
+    let last = [load(115, 0), load(256, words[2]), load(257, words[3])];
+    assert!(rt; are(run.page.items(), &asked_block(0x03F8_021D, 9), &last));
+    assert_eq!(rt; run.vcpu.end(), Some(End::Halted));
+    assert_eq!(rt; run.vcpu.steps(), 13);
+    assert_eq!(rt; run.vcpu.ram().read(0x100, 8).ok(), Some(words[2]));
+    assert_eq!(rt; run.vcpu.ram().read(0x108, 2).ok(), Some(9));
+    assert_eq!(rt; run.vcpu.regs().get(Reg::Rdi), 0x109);
+    Ok(())
+}
+
+/// MOV EDI, 18h; STD; MOV ECX, 3; MOV EDX, 500h; REP INSD; HLT. The third element would be at 10h, in the
+/// code.
+const READS_DOWN: [u8; 19] = [
+    0xBF, 0x18, 0, 0, 0, 0xFD, 0xB9, 3, 0, 0, 0, 0xBA, 0, 5, 0, 0, 0xF3, 0x6D, 0xF4,
+];
+
+#[test]
+fn a_block_that_comes_down_to_the_code_is_cut_there(rt: HostRuntime) -> Result<(), Fail> {
+    let words = [VERSION_1, 0, 0x1111_1111_2222_2222];
+    let run = run_over(rt.alloc(), &READS_DOWN, &words)?;
+    let last = [load(115, 0), load(256, words[2])];
+    assert!(rt; are(run.page.items(), &asked_block(0x0500_024D, 2), &last));
+    assert_eq!(rt; run.vcpu.ram().read(0x18, 4).ok(), Some(0x2222_2222));
+    assert_eq!(rt; run.vcpu.ram().read(0x14, 4).ok(), Some(0x1111_1111));
+    assert_eq!(rt; run.vcpu.regs().get(Reg::Rcx), 1);
+    assert_eq!(rt; run.vcpu.regs().get(Reg::Rdi), 0x10);
+    assert_eq!(rt; run.vcpu.end(), Some(End::BadAddress(0x10)));
+    assert_eq!(rt; run.vcpu.steps(), 6);
+    Ok(())
+}

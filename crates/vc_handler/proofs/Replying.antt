@@ -1,11 +1,12 @@
 -- The acceptance of a reply, case by case.
-use Rattle.std.proofs.Common.{◌≡◌, ℕ, zero, suc, ◌+◌, ◌≤◌, Bool, true, false, List, [], ◌∷◌, ◌++◌, length, Result, refl, sym, ap, ◌∙◌, subst, arith, rules}
+use Rattle.std.proofs.Common.{◌≡◌, ℕ, zero, suc, ◌+◌, ◌≤◌, Bool, true, false, List, [], ◌∷◌, ◌++◌, length, Result, refl, sym, ap, ◌∙◌, subst, arith, rules, append-nil, length-append}
 use Rattle.std.proofs.lemmas.Grind.{common_steps}
+use Rattle.std.proofs.lemmas.Bool.Decides.{nat_tests}
 use Rattle.std.proofs.lemmas.List.{drop-drop}
 use Rattle.std.proofs.lemmas.List.Folds.{list_all-append}
 use Rattle.std.proofs.Math.Bool.{and-true, and_assoc}
-use Rattle.std.specs.Prelude.{◌==◌, ◌&&◌, ◌||◌, not, if◌then◌else◌, drop, slice_index, nat_eq}
-use Rattle.std.specs.List.{IsDistinct, list_all}
+use Rattle.std.specs.Prelude.{◌==◌, ◌<◌, ◌&&◌, ◌||◌, not, if◌then◌else◌, drop, take, slice_index, nat_eq, nat_le, nat_lt}
+use Rattle.std.specs.List.{AllByRecursion, IsDistinct, list_all}
 use Rattle.page_words.specs.declared.item.Item.{Item}
 use Rattle.page_words.specs.declared.item.Item.TheVariants.{Load}
 use Rattle.page_words.specs.Programs.{Program, pure, ◌>>=◌}
@@ -18,14 +19,15 @@ use Rattle.exit_info.specs.declared.inject.BadInject.{BadInject}
 use Rattle.exit_info.specs.Inject.{request_of}
 use Rattle.event_table.specs.declared.end.Reason.TheVariants.{BadStatus}
 use Rattle.event_table.specs.declared.event.Event.{Event}
-use Rattle.event_table.specs.declared.event.Event.TheVariants.{One}
 use Rattle.event_table.specs.declared.outcome.Outcome.{Outcome}
 use Rattle.event_table.specs.declared.outcome.Outcome.TheVariants.{Terminate}
 use Rattle.event_table.specs.declared.row.Results.{Results}
-use Rattle.event_table.specs.Rows.{event_row, kind_of}
+use Rattle.event_table.specs.declared.access.Values.{Values}
+use Rattle.event_table.specs.Buffer.{bytes_from, words_for}
+use Rattle.string_io.specs.Buffers.{loaded_bytes, loading_words}
 use Rattle.vc_handler.specs.Accept.{accepting, accepting_by, outcome_done, loaded_exception, has_all, load_if, outcome_requested, loaded_results, results_by, loaded_values}
 use Rattle.vc_handler.specs.ReplyTable as reply
-use Rattle.vc_handler.specs.ReplyTable.{bitmap_loaded, bitmap_words, loads, number_if, result_words, status_of, taken_by}
+use Rattle.vc_handler.specs.ReplyTable.{bitmap_loaded, bitmap_words, buffer_loaded, bytes_of_event, count_from, loads, number_if, result_words, results_of_event, status_of, taken_by, value_loaded, values_loaded}
 
 -- what a program comes to on these words
 abbrev of : Program Outcome → List ℕ → Taken Outcome
@@ -61,11 +63,11 @@ of_false : (b : Bool) (p q : Program Outcome) (words : List ℕ) → b ≡ false
 of_false b p q words is = ap (λ (x : Bool). of (if x then p else q) words) is
 
 -- the status, and what comes by it
-status_by : (r : Results) (words : List ℕ) (t : Taken Outcome) →
-    of (if status_of words == 0 then loaded_results r else if status_of words == 1 then loaded_exception else pure (Terminate (BadStatus (slice_index words 0)))) (drop 1 words) ≡ t →
-    of (accepting_by r) words ≡ first (Load 115 (slice_index words 0)) t
+status_by : (r : Results) (count : ℕ) (words : List ℕ) (t : Taken Outcome) →
+    of (if status_of words == 0 then loaded_results r count else if status_of words == 1 then loaded_exception else pure (Terminate (BadStatus (slice_index words 0)))) (drop 1 words) ≡ t →
+    of (accepting_by r count) words ≡ first (Load 115 (slice_index words 0)) t
 unfolding listen ◌>>=◌
-status_by r words t is = ap (λ (x : Taken Outcome). first (Load 115 (slice_index words 0)) x) is
+status_by r count words t is = ap (λ (x : Taken Outcome). first (Load 115 (slice_index words 0)) x) is
 
 -- the words of the bitmap, and what comes with them
 bitmap_by : (low high : Bool) (k : Bitmap → Program Outcome) (words : List ℕ) →
@@ -104,26 +106,124 @@ results_if a c d b = record { a = a; c = c; d = d; b = b }
 abbrev ended : Results → List ℕ → Taken Outcome → Taken Outcome
 ended r words t = first (Load 115 (slice_index words 0)) (before (loads (bitmap_words r) (drop 1 words)) t)
 
-done_all : (a c d b : Bool) (words : List ℕ) →
-    ended (results_if a c d b) words (of (loaded_values (results_if a c d b) >>= (λ v. pure (outcome_done v))) (left_after (bitmap_words (results_if a c d b)) (drop 1 words)))
-    ≡ stepped (115 ∷ bitmap_words (results_if a c d b) ++ result_words (results_if a c d b)) reply.results_loaded words
+-- SW_EXITINFO1, the bitmap and the results
+abbrev up_to_results : Results → List ℕ
+up_to_results r = 115 ∷ bitmap_words r ++ result_words r
+
+values_all : (a c d b : Bool) (k : Values → Program Outcome) (words : List ℕ) → let r = results_if a c d b in
+    ended r words (of (loaded_values r >>= k) (left_after (bitmap_words r) (drop 1 words)))
+    ≡ before (loads (up_to_results r) words) (of (k (values_loaded (loads (up_to_results r) words))) (left_after (up_to_results r) words))
 unfolding listen ◌>>=◌
-done_all true true true true words = refl
-done_all true true true false words = refl
-done_all true true false true words = refl
-done_all true true false false words = refl
-done_all true false true true words = refl
-done_all true false true false words = refl
-done_all true false false true words = refl
-done_all true false false false words = refl
-done_all false true true true words = refl
-done_all false true true false words = refl
-done_all false true false true words = refl
-done_all false true false false words = refl
-done_all false false true true words = refl
-done_all false false true false words = refl
-done_all false false false true words = refl
-done_all false false false false words = refl
+values_all true true true true k words = refl
+values_all true true true false k words = refl
+values_all true true false true k words = refl
+values_all true true false false k words = refl
+values_all true false true true k words = refl
+values_all true false true false k words = refl
+values_all true false false true k words = refl
+values_all true false false false k words = refl
+values_all false true true true k words = refl
+values_all false true true false k words = refl
+values_all false true false true k words = refl
+values_all false true false false k words = refl
+values_all false false true true k words = refl
+values_all false false true false k words = refl
+values_all false false false true k words = refl
+values_all false false false false k words = refl
+
+-- the words of the buffer, and what comes with them
+abbrev words_heard : ℕ → List ℕ → List ℕ
+words_heard zero words = []
+words_heard (suc n) words = slice_index words 0 ∷ words_heard n (drop 1 words)
+
+bytes_by : (n number : ℕ) (more : List ℕ → Program (List ℕ)) (g : List ℕ → Program Outcome) (words : List ℕ) →
+    of (loading_words n number more >>= g) words
+    ≡ before (loads (count_from number n) words) (of (more (words_heard n words) >>= g) (left_after (count_from number n) words))
+unfolding listen ◌>>=◌
+bytes_by zero number more g words = refl
+bytes_by (suc n) number more g words =
+    ap (λ (t : Taken Outcome). first (Load number (slice_index words 0)) t) (bytes_by n (number + 1) (λ ws. more (slice_index words 0 ∷ ws)) g (drop 1 words))
+
+loads_append : (ns ms words : List ℕ) → loads (ns ++ ms) words ≡ loads ns words ++ loads ms (left_after ns words)
+loads_append [] ms words = refl
+loads_append (n ∷ ns) ms words = ap (λ (items : List Item). Load n (slice_index words 0) ∷ items) (loads_append ns ms (drop 1 words))
+
+left_append : (ns ms words : List ℕ) → left_after (ns ++ ms) words ≡ left_after ms (left_after ns words)
+left_append [] ms words = refl
+left_append (n ∷ ns) ms words = left_append ns ms (drop 1 words)
+
+-- a word below the buffer isn't one of the buffer's
+value_none : (number from n : ℕ) (words : List ℕ) → number < from → value_loaded number (loads (count_from from n) words) ≡ 0
+value_none number from zero words less = refl
+value_none number from (suc n) words less =
+    let other : (from == number) ≡ false = grind (arith, nat_tests) in
+    ap (λ b. if b then slice_index words 0 else value_loaded number (loads (count_from (from + 1) n) (drop 1 words))) other
+    ∙ value_none number (from + 1) n (drop 1 words) (omega arith)
+
+value_before : (number from n : ℕ) (ns words : List ℕ) → number < from → value_loaded number (loads (ns ++ count_from from n) words) ≡ value_loaded number (loads ns words)
+value_before number from n [] words less = value_none number from n words less
+value_before number from n (x ∷ ns) words less =
+    ap (λ v. if x == number then slice_index words 0 else v) (value_before number from n ns (drop 1 words) less)
+
+values_before : (n : ℕ) (ns words : List ℕ) → values_loaded (loads (ns ++ count_from 256 n) words) ≡ values_loaded (loads ns words)
+values_before n ns words =
+    rw (value_before 63 256 n ns words (omega arith), value_before 97 256 n ns words (omega arith), value_before 98 256 n ns words (omega arith), value_before 99 256 n ns words (omega arith)) refl
+
+heard_loaded : (from n : ℕ) (words : List ℕ) → 256 ≤ from → buffer_loaded (loads (count_from from n) words) ≡ words_heard n words
+heard_loaded from zero words above = refl
+heard_loaded from (suc n) words above =
+    let in_buffer : nat_le 256 from ≡ true = grind (arith, nat_tests) in
+    let rest = buffer_loaded (loads (count_from (from + 1) n) (drop 1 words)) in
+    ap (λ b. if b then slice_index words 0 ∷ rest else rest) in_buffer
+    ∙ ap (λ (ws : List ℕ). slice_index words 0 ∷ ws) (heard_loaded (from + 1) n (drop 1 words) (omega arith))
+
+buffer_all : (a c d b : Bool) (ms words : List ℕ) → let ns = up_to_results (results_if a c d b) in
+    buffer_loaded (loads (ns ++ ms) words) ≡ buffer_loaded (loads ms (left_after ns words))
+buffer_all true true true true ms words = refl
+buffer_all true true true false ms words = refl
+buffer_all true true false true ms words = refl
+buffer_all true true false false ms words = refl
+buffer_all true false true true ms words = refl
+buffer_all true false true false ms words = refl
+buffer_all true false false true ms words = refl
+buffer_all true false false false ms words = refl
+buffer_all false true true true ms words = refl
+buffer_all false true true false ms words = refl
+buffer_all false true false true ms words = refl
+buffer_all false true false false ms words = refl
+buffer_all false false true true ms words = refl
+buffer_all false false true false ms words = refl
+buffer_all false false false true ms words = refl
+buffer_all false false false false ms words = refl
+
+-- what the results and the bytes come to, over all that was loaded
+done_with : (r : Results) (count n : ℕ) (words : List ℕ) → let ns = up_to_results r in
+    outcome_done (values_loaded (loads ns words)) (take count (bytes_from (words_heard n (left_after ns words))))
+    ≡ reply.results_loaded count (loads (ns ++ count_from 256 n) words)
+done_with r count n words =
+    let ns = up_to_results r in
+    let heard = buffer_all r.a r.c r.d r.b (count_from 256 n) words ∙ heard_loaded 256 n (left_after ns words) (omega arith) in
+    ap (λ (v : Values). outcome_done v (take count (bytes_from (words_heard n (left_after ns words))))) (sym (values_before n ns words))
+    ∙ ap (λ (ws : List ℕ). outcome_done (values_loaded (loads (ns ++ count_from 256 n) words)) (take count (bytes_from ws))) (sym heard)
+
+abbrev taken : List Item → Outcome → List ℕ → Taken Outcome
+taken items outcome rest = record { items = items; value = outcome; rest = rest }
+
+done_tail : (r : Results) (count : ℕ) (words : List ℕ) → let ns = up_to_results r in
+    before (loads ns words) (of (loaded_bytes count >>= (λ bytes. pure (outcome_done (values_loaded (loads ns words)) bytes))) (left_after ns words))
+    ≡ stepped (ns ++ count_from 256 (words_for count)) (reply.results_loaded count) words
+unfolding listen ◌>>=◌
+done_tail r count words =
+    let ns = up_to_results r in
+    let n = words_for count in
+    let ms = count_from 256 n in
+    let left = left_after ns words in
+    let last = outcome_done (values_loaded (loads ns words)) (take count (bytes_from (words_heard n left))) in
+    ap (λ (t : Taken Outcome). before (loads ns words) t) (bytes_by n 256 (λ ws. pure (take count (bytes_from ws))) (λ bytes. pure (outcome_done (values_loaded (loads ns words)) bytes)) left)
+    ∙ ap (λ (items : List Item). taken (loads ns words ++ items) last (left_after ms left)) (append-nil (loads ms left))
+    ∙ ap (λ (items : List Item). taken items last (left_after ms left)) (sym (loads_append ns ms words))
+    ∙ ap (λ (rest : List ℕ). taken (loads (ns ++ ms) words) last rest) (sym (left_append ns ms words))
+    ∙ ap (λ (o : Outcome). taken (loads (ns ++ ms) words) o (left_after (ns ++ ms) words)) (done_with r count n words)
 
 missing_all : (a c d b : Bool) (words : List ℕ) →
     ended (results_if a c d b) words
@@ -144,111 +244,147 @@ bitmap_behind : (r : Results) (words : List ℕ) →
     bitmap_loaded (loads (115 ∷ bitmap_words r) words) ≡ bitmap_loaded (loads (bitmap_words r) (drop 1 words))
 bitmap_behind r words = refl
 
-zero_by : (r : Results) (words : List ℕ) → status_of words ≡ 0 →
-    of (accepting_by r) words
-    ≡ ended r words (of (results_by r (bitmap_loaded (loads (bitmap_words r) (drop 1 words)))) (left_after (bitmap_words r) (drop 1 words)))
-zero_by r words is =
+zero_by : (r : Results) (count : ℕ) (words : List ℕ) → status_of words ≡ 0 →
+    of (accepting_by r count) words
+    ≡ ended r words (of (results_by r count (bitmap_loaded (loads (bitmap_words r) (drop 1 words)))) (left_after (bitmap_words r) (drop 1 words)))
+zero_by r count words is =
     let fine : (status_of words == 0) ≡ true = grind (arith, common_steps) in
-    status_by r words _ (of_true (status_of words == 0) (loaded_results r) _ (drop 1 words) fine ∙ bitmap_by r.a (r.c || r.d || r.b) (results_by r) (drop 1 words))
+    status_by r count words _ (of_true (status_of words == 0) (loaded_results r count) _ (drop 1 words) fine ∙ bitmap_by r.a (r.c || r.d || r.b) (results_by r count) (drop 1 words))
 
-done_by : (r : Results) (words : List ℕ) → status_of words ≡ 0 →
+done_by : (r : Results) (count : ℕ) (words : List ℕ) → status_of words ≡ 0 →
     list_all (λ n. has_bit (bitmap_loaded (loads (115 ∷ bitmap_words r) words)) n) (result_words r) ≡ true →
-    of (accepting_by r) words ≡ taken_by (115 ∷ bitmap_words r ++ result_words r) reply.results_loaded words
-done_by r words is has =
+    of (accepting_by r count) words ≡ taken_by (up_to_results r ++ count_from 256 (words_for count)) (reply.results_loaded count) words
+done_by r count words is has =
     let b = bitmap_loaded (loads (bitmap_words r) (drop 1 words)) in
-    zero_by r words is
+    zero_by r count words is
     ∙ ap (λ (t : Taken Outcome). ended r words t) (of_true (has_all r b) _ _ _ (sym (bits_by r b) ∙ has))
-    ∙ done_all r.a r.c r.d r.b words
-    ∙ dropped (115 ∷ bitmap_words r ++ result_words r) reply.results_loaded words
+    ∙ values_all r.a r.c r.d r.b (λ v. loaded_bytes count >>= (λ bytes. pure (outcome_done v bytes))) words
+    ∙ done_tail r count words
+    ∙ dropped (up_to_results r ++ count_from 256 (words_for count)) (reply.results_loaded count) words
 
-missing_by : (r : Results) (words : List ℕ) → status_of words ≡ 0 →
+missing_by : (r : Results) (count : ℕ) (words : List ℕ) → status_of words ≡ 0 →
     list_all (λ n. has_bit (bitmap_loaded (loads (115 ∷ bitmap_words r) words)) n) (result_words r) ≡ false →
-    of (accepting_by r) words ≡ taken_by (115 ∷ bitmap_words r) reply.missing_loaded words
-missing_by r words is has =
+    of (accepting_by r count) words ≡ taken_by (115 ∷ bitmap_words r) reply.missing_loaded words
+missing_by r count words is has =
     let b = bitmap_loaded (loads (bitmap_words r) (drop 1 words)) in
-    zero_by r words is
+    zero_by r count words is
     ∙ ap (λ (t : Taken Outcome). ended r words t) (of_false (has_all r b) _ _ _ (sym (bits_by r b) ∙ has))
     ∙ missing_all r.a r.c r.d r.b words
     ∙ dropped (115 ∷ bitmap_words r) reply.missing_loaded words
 
-exception_by : (r : Results) (words : List ℕ) (asked : Result Inject BadInject) → status_of words ≡ 1 → request_of (slice_index words 1) ≡ asked →
-    of (accepting_by r) words ≡ taken_by (115 ∷ 116 ∷ []) (λ _. outcome_requested (slice_index words 1) asked) words
+exception_by : (r : Results) (count : ℕ) (words : List ℕ) (asked : Result Inject BadInject) → status_of words ≡ 1 → request_of (slice_index words 1) ≡ asked →
+    of (accepting_by r count) words ≡ taken_by (115 ∷ 116 ∷ []) (λ _. outcome_requested (slice_index words 1) asked) words
 unfolding listen ◌>>=◌
-exception_by r words asked one is =
+exception_by r count words asked one is =
     let not_done : (status_of words == 0) ≡ false = grind (arith, common_steps) in
     let asks : (status_of words == 1) ≡ true = grind (arith, common_steps) in
-    status_by r words _ (of_false (status_of words == 0) _ _ (drop 1 words) not_done ∙ of_true (status_of words == 1) loaded_exception _ (drop 1 words) asks)
+    status_by r count words _ (of_false (status_of words == 0) _ _ (drop 1 words) not_done ∙ of_true (status_of words == 1) loaded_exception _ (drop 1 words) asks)
     ∙ ap (λ n. first (Load 115 (slice_index words 0)) (first (Load 116 (slice_index (drop 1 words) 0))
     (record { items = []; value = outcome_requested n (request_of n); rest = drop 1 (drop 1 words) }))) (second words)
     ∙ ap (λ (x : Result Inject BadInject). stepped (115 ∷ 116 ∷ []) (λ _. outcome_requested (slice_index words 1) x) words) is
     ∙ dropped (115 ∷ 116 ∷ []) (λ _. outcome_requested (slice_index words 1) asked) words
 
-other_by : (r : Results) (words : List ℕ) → 2 ≤ status_of words →
-    of (accepting_by r) words ≡ taken_by (115 ∷ []) (λ _. Terminate (BadStatus (slice_index words 0))) words
+other_by : (r : Results) (count : ℕ) (words : List ℕ) → 2 ≤ status_of words →
+    of (accepting_by r count) words ≡ taken_by (115 ∷ []) (λ _. Terminate (BadStatus (slice_index words 0))) words
 unfolding listen
-other_by r words other =
+other_by r count words other =
     let not_done : (status_of words == 0) ≡ false = grind (arith, common_steps) in
     let asks : (status_of words == 1) ≡ false = grind (arith, common_steps) in
-    status_by r words _ (of_false (status_of words == 0) _ _ (drop 1 words) not_done ∙ of_false (status_of words == 1) _ _ (drop 1 words) asks)
+    status_by r count words _ (of_false (status_of words == 0) _ _ (drop 1 words) not_done ∙ of_false (status_of words == 1) _ _ (drop 1 words) asks)
 
--- seven numbers at most, none twice
+-- seven numbers below the buffer at most, none twice
 abbrev IsFew : List ℕ → Type 0
-IsFew numbers = IsDistinct nat_eq numbers × (length numbers ≤ 7)
+IsFew numbers = IsDistinct nat_eq numbers × AllByRecursion (λ n. nat_lt n 256 ≡ true) numbers × (length numbers ≤ 7)
 
-few_all : (a c d b : Bool) → IsFew (115 ∷ bitmap_words (results_if a c d b) ++ result_words (results_if a c d b))
+few_all : (a c d b : Bool) → IsFew (up_to_results (results_if a c d b))
 unfolding IsDistinct
-few_all true true true true = (search rules depth 40, omega arith)
-few_all true true true false = (search rules depth 40, omega arith)
-few_all true true false true = (search rules depth 40, omega arith)
-few_all true true false false = (search rules depth 40, omega arith)
-few_all true false true true = (search rules depth 40, omega arith)
-few_all true false true false = (search rules depth 40, omega arith)
-few_all true false false true = (search rules depth 40, omega arith)
-few_all true false false false = (search rules depth 40, omega arith)
-few_all false true true true = (search rules depth 40, omega arith)
-few_all false true true false = (search rules depth 40, omega arith)
-few_all false true false true = (search rules depth 40, omega arith)
-few_all false true false false = (search rules depth 40, omega arith)
-few_all false false true true = (search rules depth 40, omega arith)
-few_all false false true false = (search rules depth 40, omega arith)
-few_all false false false true = (search rules depth 40, omega arith)
-few_all false false false false = (search rules depth 40, omega arith)
+few_all true true true true = (search rules depth 40, search rules depth 40, omega arith)
+few_all true true true false = (search rules depth 40, search rules depth 40, omega arith)
+few_all true true false true = (search rules depth 40, search rules depth 40, omega arith)
+few_all true true false false = (search rules depth 40, search rules depth 40, omega arith)
+few_all true false true true = (search rules depth 40, search rules depth 40, omega arith)
+few_all true false true false = (search rules depth 40, search rules depth 40, omega arith)
+few_all true false false true = (search rules depth 40, search rules depth 40, omega arith)
+few_all true false false false = (search rules depth 40, search rules depth 40, omega arith)
+few_all false true true true = (search rules depth 40, search rules depth 40, omega arith)
+few_all false true true false = (search rules depth 40, search rules depth 40, omega arith)
+few_all false true false true = (search rules depth 40, search rules depth 40, omega arith)
+few_all false true false false = (search rules depth 40, search rules depth 40, omega arith)
+few_all false false true true = (search rules depth 40, search rules depth 40, omega arith)
+few_all false false true false = (search rules depth 40, search rules depth 40, omega arith)
+few_all false false false true = (search rules depth 40, search rules depth 40, omega arith)
+few_all false false false false = (search rules depth 40, search rules depth 40, omega arith)
 
 few_bitmap : (a c d b : Bool) → IsFew (115 ∷ bitmap_words (results_if a c d b))
 unfolding IsDistinct
-few_bitmap true true d b = (search rules, omega arith)
-few_bitmap true false true b = (search rules, omega arith)
-few_bitmap true false false true = (search rules, omega arith)
-few_bitmap true false false false = (search rules, omega arith)
-few_bitmap false true d b = (search rules, omega arith)
-few_bitmap false false true b = (search rules, omega arith)
-few_bitmap false false false true = (search rules, omega arith)
-few_bitmap false false false false = (search rules, omega arith)
+few_bitmap true true d b = (search rules, search rules, omega arith)
+few_bitmap true false true b = (search rules, search rules, omega arith)
+few_bitmap true false false true = (search rules, search rules, omega arith)
+few_bitmap true false false false = (search rules, search rules, omega arith)
+few_bitmap false true d b = (search rules, search rules, omega arith)
+few_bitmap false false true b = (search rules, search rules, omega arith)
+few_bitmap false false false true = (search rules, search rules, omega arith)
+few_bitmap false false false false = (search rules, search rules, omega arith)
 
 few_exception : IsFew (115 ∷ 116 ∷ [])
 unfolding IsDistinct
-few_exception = (search rules, omega arith)
+few_exception = (search rules, search rules, omega arith)
 
 few_status : IsFew (115 ∷ [])
 unfolding IsDistinct
-few_status = (search rules, omega arith)
+few_status = (search rules, search rules, omega arith)
 
--- a reply is loaded by few numbers
-abbrev LoadsFew : Results → List ℕ → Type 0
-LoadsFew r words = (numbers : List ℕ) × ((of (accepting_by r) words).items ≡ loads numbers words) × IsFew numbers
+-- numbers that count up are apart from each other, and from all below them
+apart_from : (x from n : ℕ) → x < from → AllByRecursion (λ y. nat_eq x y ≡ false) (count_from from n)
+apart_from x from zero less = tt
+apart_from x from (suc n) less = (grind (arith, nat_tests), apart_from x (from + 1) n (omega arith))
 
-items_by : (r : Results) (words numbers : List ℕ) (outcome : List Item → Outcome) → of (accepting_by r) words ≡ taken_by numbers outcome words → IsFew numbers → LoadsFew r words
-items_by r words numbers outcome is few = (numbers, ap (λ (t : Taken Outcome). t.items) is, few)
+distinct_from : (from n : ℕ) → IsDistinct nat_eq (count_from from n)
+unfolding IsDistinct
+distinct_from from zero = tt
+distinct_from from (suc n) = (apart_from from (from + 1) n (omega arith), distinct_from (from + 1) n)
 
-loads_zero : (r : Results) (words : List ℕ) (has : Bool) → status_of words ≡ 0 →
-    list_all (λ n. has_bit (bitmap_loaded (loads (115 ∷ bitmap_words r) words)) n) (result_words r) ≡ has → LoadsFew r words
-loads_zero r words true is has = items_by r words _ reply.results_loaded (done_by r words is has) (few_all r.a r.c r.d r.b)
-loads_zero r words false is has = items_by r words _ reply.missing_loaded (missing_by r words is has) (few_bitmap r.a r.c r.d r.b)
+apart_both : (x : ℕ) (ns ms : List ℕ) → AllByRecursion (λ y. nat_eq x y ≡ false) ns → AllByRecursion (λ y. nat_eq x y ≡ false) ms → AllByRecursion (λ y. nat_eq x y ≡ false) (ns ++ ms)
+apart_both x [] ms one two = two
+apart_both x (n ∷ ns) ms one two = (one.0, apart_both x ns ms one.1 two)
 
-loads_by : (r : Results) (words : List ℕ) (s : ℕ) → status_of words ≡ s → LoadsFew r words
-loads_by r words zero is = loads_zero r words _ is refl
-loads_by r words (suc zero) is = items_by r words _ (λ _. outcome_requested (slice_index words 1) (request_of (slice_index words 1))) (exception_by r words _ is refl) few_exception
-loads_by r words (suc (suc s)) is = items_by r words _ (λ _. Terminate (BadStatus (slice_index words 0))) (other_by r words (omega (arith, is))) few_status
+distinct_both : (ns : List ℕ) (n : ℕ) → IsDistinct nat_eq ns → AllByRecursion (λ x. nat_lt x 256 ≡ true) ns → IsDistinct nat_eq (ns ++ count_from 256 n)
+unfolding IsDistinct
+distinct_both [] n apart below = distinct_from 256 n
+distinct_both (x ∷ ns) n apart below =
+    let less : nat_lt x 256 ≡ true = below.0 in
+    (apart_both x ns (count_from 256 n) apart.0 (apart_from x 256 n (grind (arith, nat_tests))), distinct_both ns n apart.1 below.1)
+
+length-count_from : (from n : ℕ) → length (count_from from n) ≡ n
+length-count_from from zero = refl
+length-count_from from (suc n) = ap (λ k. suc k) (length-count_from (from + 1) n)
+
+-- a reply is loaded by these numbers, none twice, and few beside the words of the buffer
+abbrev LoadsFew : Results → ℕ → List ℕ → Type 0
+LoadsFew r count words =
+    (numbers : List ℕ) × ((of (accepting_by r count) words).items ≡ loads numbers words) × IsDistinct nat_eq numbers × (length numbers ≤ 7 + words_for count)
+
+items_by : (r : Results) (count : ℕ) (words numbers : List ℕ) (outcome : List Item → Outcome) → of (accepting_by r count) words ≡ taken_by numbers outcome words → IsFew numbers → LoadsFew r count words
+items_by r count words numbers outcome is few = (numbers, ap (λ (t : Taken Outcome). t.items) is, few.0, omega (arith, few.2))
+
+items_all : (r : Results) (count : ℕ) (words : List ℕ) → of (accepting_by r count) words ≡ taken_by (up_to_results r ++ count_from 256 (words_for count)) (reply.results_loaded count) words → IsFew (up_to_results r) → LoadsFew r count words
+items_all r count words is few =
+    let n = words_for count in (
+      up_to_results r ++ count_from 256 n,
+      ap (λ (t : Taken Outcome). t.items) is,
+      distinct_both (up_to_results r) n few.0 few.1,
+      omega (arith, few.2, length-append (up_to_results r) (count_from 256 n), length-count_from 256 n),
+    )
+
+loads_zero : (r : Results) (count : ℕ) (words : List ℕ) (has : Bool) → status_of words ≡ 0 →
+    list_all (λ n. has_bit (bitmap_loaded (loads (115 ∷ bitmap_words r) words)) n) (result_words r) ≡ has → LoadsFew r count words
+loads_zero r count words true is has = items_all r count words (done_by r count words is has) (few_all r.a r.c r.d r.b)
+loads_zero r count words false is has = items_by r count words _ reply.missing_loaded (missing_by r count words is has) (few_bitmap r.a r.c r.d r.b)
+
+loads_by : (r : Results) (count : ℕ) (words : List ℕ) (s : ℕ) → status_of words ≡ s → LoadsFew r count words
+loads_by r count words zero is = loads_zero r count words _ is refl
+loads_by r count words (suc zero) is = items_by r count words _ (λ _. outcome_requested (slice_index words 1) (request_of (slice_index words 1))) (exception_by r count words _ is refl) few_exception
+loads_by r count words (suc (suc s)) is = items_by r count words _ (λ _. Terminate (BadStatus (slice_index words 0))) (other_by r count words (omega (arith, is))) few_status
 
 loads_numbers : (numbers words : List ℕ) → loads_of (loads numbers words) ≡ numbers
 loads_numbers [] words = refl
@@ -258,38 +394,38 @@ length-loads : (numbers words : List ℕ) → length (loads numbers words) ≡ l
 length-loads [] words = refl
 length-loads (number ∷ numbers) words = ap (λ n. suc n) (length-loads numbers (drop 1 words))
 
-few_loads : (r : Results) (items : List Item) (outcome : Outcome) → Follows (listen (accepting_by r) (λ o. over o)) items outcome →
-    IsDistinct nat_eq (loads_of items) × (length items ≤ 7)
-few_loads r items outcome goes =
+few_loads : (r : Results) (count : ℕ) (items : List Item) (outcome : Outcome) → Follows (listen (accepting_by r count) (λ o. over o)) items outcome →
+    IsDistinct nat_eq (loads_of items) × (length items ≤ 7 + words_for count)
+few_loads r count items outcome goes =
     let words = values_of items in
-    let some = loads_by r words (status_of words) refl in
-    let is = goes_taken (listen (accepting_by r) (λ o. over o)) items outcome words goes (begins_self words) in
+    let some = loads_by r count words (status_of words) refl in
+    let is = goes_taken (listen (accepting_by r count) (λ o. over o)) items outcome words goes (begins_self words) in
     let same : items ≡ loads some.0 words = ap (λ (t : Taken Outcome). t.items) (sym is) ∙ some.1 in (
-      subst (λ (numbers : List ℕ). IsDistinct nat_eq numbers) (sym (ap loads_of same ∙ loads_numbers some.0 words)) some.2.0,
-      subst (λ n. n ≤ 7) (sym (ap (λ (is : List Item). length is) same ∙ length-loads some.0 words)) some.2.1,
+      subst (λ (numbers : List ℕ). IsDistinct nat_eq numbers) (sym (ap loads_of same ∙ loads_numbers some.0 words)) some.2,
+      subst (λ n. n ≤ 7 + words_for count) (sym (ap (λ (is : List Item). length is) same ∙ length-loads some.0 words)) some.3,
     )
 
 -- in whatever follows, no word is loaded twice
 pub loads_once : (event : Event) (items : List Item) (outcome : Outcome) → Follows (listen (accepting event) (λ o. over o)) items outcome → IsDistinct nat_eq (loads_of items)
-loads_once (One access) items outcome goes = (few_loads (event_row (kind_of access)).results items outcome goes).0
+loads_once event items outcome goes = (few_loads (results_of_event event) (bytes_of_event event) items outcome goes).0
 
--- and there are seven items at most
-pub items_few : (event : Event) (items : List Item) (outcome : Outcome) → Follows (listen (accepting event) (λ o. over o)) items outcome → length items ≤ 7
-items_few (One access) items outcome goes = (few_loads (event_row (kind_of access)).results items outcome goes).1
+-- and there are seven items at most, beside those of the buffer
+pub items_few : (event : Event) (items : List Item) (outcome : Outcome) → Follows (listen (accepting event) (λ o. over o)) items outcome → length items ≤ 7 + words_for (bytes_of_event event)
+items_few event items outcome goes = (few_loads (results_of_event event) (bytes_of_event event) items outcome goes).1
 
 -- the cases, of an event
 pub done_is : (event : Event) (words : List ℕ) → status_of words ≡ 0 → reply.has_results event words ≡ true →
-    reply.acceptance event words ≡ taken_by (reply.up_to_results event) reply.results_loaded words
-done_is (One access) words is has = done_by (event_row (kind_of access)).results words is has
+    reply.acceptance event words ≡ taken_by (reply.up_to_bytes event) (reply.results_loaded (bytes_of_event event)) words
+done_is event words is has = done_by (results_of_event event) (bytes_of_event event) words is has
 
 pub missing_is : (event : Event) (words : List ℕ) → status_of words ≡ 0 → reply.has_results event words ≡ false →
     reply.acceptance event words ≡ taken_by (reply.up_to_bitmap event) reply.missing_loaded words
-missing_is (One access) words is has = missing_by (event_row (kind_of access)).results words is has
+missing_is event words is has = missing_by (results_of_event event) (bytes_of_event event) words is has
 
 pub exception_is : (event : Event) (words : List ℕ) (asked : Result Inject BadInject) → status_of words ≡ 1 → request_of (slice_index words 1) ≡ asked →
     reply.acceptance event words ≡ taken_by (115 ∷ 116 ∷ []) (λ _. outcome_requested (slice_index words 1) asked) words
-exception_is (One access) words asked one is = exception_by (event_row (kind_of access)).results words asked one is
+exception_is event words asked one is = exception_by (results_of_event event) (bytes_of_event event) words asked one is
 
 pub other_is : (event : Event) (words : List ℕ) → 2 ≤ status_of words →
     reply.acceptance event words ≡ taken_by (115 ∷ []) (λ _. Terminate (BadStatus (slice_index words 0))) words
-other_is (One access) words other = other_by (event_row (kind_of access)).results words other
+other_is event words other = other_by (results_of_event event) (bytes_of_event event) words other

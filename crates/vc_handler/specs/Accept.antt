@@ -1,5 +1,5 @@
 -- How a guest takes the reply to an event (AMD 56421, "GHCB Layout", SW_EXITINFO1, SW_EXITINFO2 and VALID_BITMAP).
-use Rattle.std.specs.Prelude.{ℕ, ◌%◌, ◌^◌, ◌==◌, Bool, not, ◌&&◌, ◌||◌, if◌then◌else◌, [], Result, Ok, Err}
+use Rattle.std.specs.Prelude.{ℕ, ◌%◌, ◌^◌, ◌==◌, Bool, not, ◌&&◌, ◌||◌, if◌then◌else◌, List, Result, Ok, Err}
 use Rattle.page_words.specs.Programs.{Program, pure, load, ◌>>=◌}
 use Rattle.ghcb_layout.specs.declared.field.Field.TheVariants.{Rax, Rcx, Rdx, Rbx, ExitInfo1, ExitInfo2}
 use Rattle.ghcb_layout.specs.declared.bitmap.Bitmap.{Bitmap}
@@ -11,11 +11,14 @@ use Rattle.exit_info.specs.Inject.{request_of}
 use Rattle.event_table.specs.declared.access.Values.{Values}
 use Rattle.event_table.specs.declared.end.Reason.TheVariants.{BadStatus, BadException, MissingResult}
 use Rattle.event_table.specs.declared.event.Event.{Event}
-use Rattle.event_table.specs.declared.event.Event.TheVariants.{One}
 use Rattle.event_table.specs.declared.outcome.Outcome.{Outcome}
 use Rattle.event_table.specs.declared.outcome.Outcome.TheVariants.{Done, Raise, Terminate}
+use Rattle.event_table.specs.declared.outcome.Reply.{Reply}
 use Rattle.event_table.specs.declared.row.Results.{Results}
-use Rattle.event_table.specs.Rows.{event_row, kind_of}
+use Rattle.event_table.specs.Rows.{bytes_back, event_row, kind_of_event}
+use Rattle.string_io.specs.Buffers.{loaded_bytes}
+use Rattle.vc_handler.specs.declared.accept.Answer.{Answer}
+use Rattle.vc_handler.specs.declared.accept.Answer.TheVariants as answer
 
 -- a word, where it is wanted, and else 0
 abbrev pub load_if : Bool → ℕ → Program ℕ
@@ -24,6 +27,10 @@ load_if wanted word = if wanted then load word else pure 0
 -- the upper word of the valid bitmap has a bit of a result
 abbrev pub has_upper : Results → Bool
 has_upper r = r.c || r.d || r.b
+
+-- a register is a result
+abbrev pub has_any : Results → Bool
+has_any r = r.a || has_upper r
 
 -- the words of the valid bitmap, each where a result has its bit there
 abbrev pub bitmap : Results → Program Bitmap
@@ -47,16 +54,28 @@ loaded_values r = do
   b ← load_if r.b (word_number Rbx)
   pure (record { a = a; c = c; d = d; b = b })
 
-abbrev pub outcome_done : Values → Outcome
-outcome_done v = Done (record { values = v; bytes = [] })
+abbrev pub reply_of : Values → List ℕ → Reply
+reply_of v bytes = record { values = v; bytes = bytes }
 
--- the results, where all of them have their bits
-abbrev pub results_by : Results → Bitmap → Program Outcome
-results_by r b =
-    if has_all r b then loaded_values r >>= (λ v. pure (outcome_done v)) else pure (Terminate (MissingResult b.low b.high))
+-- of an event that has none
+abbrev pub no_values : Values
+no_values = record { a = 0; c = 0; d = 0; b = 0 }
 
-abbrev pub loaded_results : Results → Program Outcome
-loaded_results r = bitmap r >>= (λ b. results_by r b)
+abbrev pub outcome_done : Values → List ℕ → Outcome
+outcome_done v bytes = Done (reply_of v bytes)
+
+-- the results and then so many bytes of the shared buffer, where all results have their bits
+abbrev pub results_by : Results → ℕ → Bitmap → Program Outcome
+results_by r count b =
+    if has_all r b then loaded_values r >>= (λ v. loaded_bytes count >>= (λ bytes. pure (outcome_done v bytes)))
+    else pure (Terminate (MissingResult b.low b.high))
+
+abbrev pub loaded_results : Results → ℕ → Program Outcome
+loaded_results r count = bitmap r >>= (λ b. results_by r count b)
+
+-- what comes back of an event, once the status says that it is there
+abbrev pub loaded_reply : Event → Program Outcome
+loaded_reply event = loaded_results (event_row (kind_of_event event)).results (bytes_back (kind_of_event event))
 
 abbrev pub outcome_requested : ℕ → Result Inject BadInject → Outcome
 outcome_requested word (Ok i) = Raise i.vector i.code
@@ -68,18 +87,25 @@ loaded_exception = do
   word ← load (word_number ExitInfo2)
   pure (outcome_requested word (request_of word))
 
-abbrev pub by_status : Results → ℕ → Program Outcome
-by_status r status =
-    if status % 2 ^ 32 == 0 then loaded_results r
+abbrev pub by_status : Results → ℕ → ℕ → Program Outcome
+by_status r count status =
+    if status % 2 ^ 32 == 0 then loaded_results r count
     else if status % 2 ^ 32 == 1 then loaded_exception
     else pure (Terminate (BadStatus status))
 
-abbrev pub accepting_by : Results → Program Outcome
-accepting_by r = do
+-- a reply with these results, and so many bytes in the shared buffer
+abbrev pub accepting_by : Results → ℕ → Program Outcome
+accepting_by r count = do
   status ← load (word_number ExitInfo1)
-  by_status r status
+  by_status r count status
 
 -- The status is the low half of SW_EXITINFO1: 0 says done, and 1 asks for an exception; the guest terminates at any
--- other.
+-- other. A block has no results in registers, so no word of the bitmap is loaded for it.
 abbrev pub accepting : Event → Program Outcome
-accepting (One access) = accepting_by (event_row (kind_of access)).results
+accepting event = accepting_by (event_row (kind_of_event event)).results (bytes_back (kind_of_event event))
+
+-- the outcome by what the reply came to, where the reply itself stands in its place
+abbrev pub outcome_in : Answer → Reply → Outcome
+outcome_in answer.Done reply = Done reply
+outcome_in (answer.Raise vector code) reply = Raise vector code
+outcome_in (answer.Terminate reason) reply = Terminate reason

@@ -1,6 +1,6 @@
 -- The table by which a reply is accepted, over a list of words (AMD 56421, "GHCB Layout", SW_EXITINFO1, SW_EXITINFO2
 -- and VALID_BITMAP).
-use Rattle.std.specs.Prelude.{ℕ, ◌%◌, ◌^◌, ◌==◌, Bool, ◌||◌, if◌then◌else◌, List, [], ◌∷◌, ◌++◌, length, drop, slice_index}
+use Rattle.std.specs.Prelude.{ℕ, zero, suc, ◌+◌, ◌%◌, ◌^◌, ◌==◌, Bool, ◌||◌, nat_le, if◌then◌else◌, List, [], ◌∷◌, ◌++◌, length, drop, take, slice_index}
 use Rattle.std.specs.List.{list_all}
 use Rattle.page_words.specs.declared.item.Item.{Item}
 use Rattle.page_words.specs.declared.item.Item.TheVariants.{Store, Exit, Load, Msr}
@@ -9,13 +9,14 @@ use Rattle.ghcb_layout.specs.declared.bitmap.Bitmap.{Bitmap}
 use Rattle.ghcb_layout.specs.declared.field.Field.TheVariants.{Rax, Rcx, Rdx, Rbx, ExitInfo1}
 use Rattle.ghcb_layout.specs.Bitmap.{bitmap_low, bitmap_high, has_bit}
 use Rattle.ghcb_layout.specs.Field.{word_number}
+use Rattle.event_table.specs.declared.access.Values.{Values}
 use Rattle.event_table.specs.declared.end.Reason.TheVariants.{MissingResult}
 use Rattle.event_table.specs.declared.event.Event.{Event}
-use Rattle.event_table.specs.declared.event.Event.TheVariants.{One}
 use Rattle.event_table.specs.declared.outcome.Outcome.{Outcome}
 use Rattle.event_table.specs.declared.outcome.Outcome.TheVariants.{Done, Terminate}
 use Rattle.event_table.specs.declared.row.Results.{Results}
-use Rattle.event_table.specs.Rows.{event_row, kind_of}
+use Rattle.event_table.specs.Buffer.{bytes_from, first_word, words_for}
+use Rattle.event_table.specs.Rows.{bytes_back, event_row, kind_of_event}
 use Rattle.vc_handler.specs.Accept.{accepting}
 
 -- what the acceptance of an event's reply comes to where its loads give these words, and zeros after them: the loads,
@@ -49,7 +50,11 @@ abbrev pub status_of : List ℕ → ℕ
 status_of words = slice_index words 0 % 2 ^ 32
 
 abbrev pub results_of_event : Event → Results
-results_of_event (One access) = (event_row (kind_of access)).results
+results_of_event event = (event_row (kind_of_event event)).results
+
+-- how many bytes come back in the shared buffer: those of an input block, and else none
+abbrev pub bytes_of_event : Event → ℕ
+bytes_of_event event = bytes_back (kind_of_event event)
 
 -- a number, where it is wanted
 abbrev pub number_if : Bool → ℕ → List ℕ
@@ -77,23 +82,41 @@ up_to_bitmap event = word_number ExitInfo1 ∷ bitmap_words (results_of_event ev
 abbrev pub up_to_results : Event → List ℕ
 up_to_results event = up_to_bitmap event ++ result_words (results_of_event event)
 
+-- so many numbers from one on
+abbrev pub count_from : ℕ → ℕ → List ℕ
+count_from number zero = []
+count_from number (suc n) = number ∷ count_from (number + 1) n
+
+-- and the words of the shared buffer that have these bytes
+abbrev pub up_to_bytes : Event → List ℕ
+up_to_bytes event = up_to_results event ++ count_from first_word (words_for (bytes_of_event event))
+
 -- all result bits are set in the bitmap that these words give
 abbrev pub has_results : Event → List ℕ → Bool
 has_results event words =
     list_all (λ number. has_bit (bitmap_loaded (loads (up_to_bitmap event) words)) number)
     (result_words (results_of_event event))
 
+-- the values that the loads of the shared buffer's words gave, in order
+abbrev pub buffer_loaded : List Item → List ℕ
+buffer_loaded [] = []
+buffer_loaded (Load number value ∷ items) = if nat_le first_word number then value ∷ buffer_loaded items else buffer_loaded items
+buffer_loaded (Store number value ∷ items) = buffer_loaded items
+buffer_loaded (Exit value ∷ items) = buffer_loaded items
+buffer_loaded (Msr value ∷ items) = buffer_loaded items
+
 -- the results that were loaded
-abbrev pub results_loaded : List Item → Outcome
-results_loaded items = Done (record {
-  values = record {
-    a = value_loaded (word_number Rax) items;
-    c = value_loaded (word_number Rcx) items;
-    d = value_loaded (word_number Rdx) items;
-    b = value_loaded (word_number Rbx) items;
-  };
-  bytes = [];
-})
+abbrev pub values_loaded : List Item → Values
+values_loaded items = record {
+  a = value_loaded (word_number Rax) items;
+  c = value_loaded (word_number Rcx) items;
+  d = value_loaded (word_number Rdx) items;
+  b = value_loaded (word_number Rbx) items;
+}
+
+-- with so many bytes of the shared buffer
+abbrev pub results_loaded : ℕ → List Item → Outcome
+results_loaded count items = Done (record { values = values_loaded items; bytes = take count (bytes_from (buffer_loaded items)) })
 
 -- the result bits that are clear, by the bitmap's words
 abbrev pub missing_loaded : List Item → Outcome

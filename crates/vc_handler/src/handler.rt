@@ -1,40 +1,54 @@
 // The #VC handler of a vCPU.
-ghost use Rattle.std.specs.Prelude.{◌≡◌, [], ◌∷◌, IfOk, IfSome};
+ghost use Rattle.std.specs.Prelude.{◌≡◌, ◌<◌, ◌^◌, [], ◌∷◌, IfOk, IfSome};
 ghost use Rattle.page_words.specs.Told.{HasRoom, Makes};
 ghost use Rattle.page_words.specs.Dialogue.{Reads};
 ghost use Rattle.page_words.specs.declared.item.Item.TheVariants.{Exit};
 ghost use Rattle.ghcb_layout.specs.Address as pages;
-ghost use Rattle.event_table.specs.Lawful.{IsLawfulEvent, IsLawfulAccess};
+ghost use Rattle.event_table.specs.Lawful.{IsLawfulEvent};
+ghost use Rattle.event_table.specs.Events.{asked_by};
 ghost use Rattle.event_table.specs.Places.{vcpu};
-ghost use Rattle.vc_handler.specs.Accept.{accepting};
+ghost use Rattle.vc_handler.specs.Accept.{accepting, outcome_in};
 ghost use Rattle.vc_handler.specs.Begin.{begun};
 ghost use Rattle.vc_handler.specs.Version.{farewell, negotiated, negotiating, question};
 ghost use Rattle.vc_handler.specs.Wire.{wire};
 
-use crate::accept::take_reply;
+use crate::accept::{Answer, empty_reply, take_reply};
 use crate::wire::show_event;
-use event_table::{Access, Event, Outcome, Reason, kind_of, named, registers_of, row_of};
+use event_table::{Event, Outcome, Reason, Reply, is_string, kind_of_event, named, row_of};
 use ghcb_layout::ghcb_of;
 use image_file::Ram;
 use insn_decode::decode;
 use msr_protocol::{MsrWord, write};
 use page_words::Page;
 use std::marker::Model;
-use x86_base::Regs;
+use string_io::block;
+use x86_base::{Insn, Regs};
 
 /// A code of #VC that no event of the instruction at RIP has; it keeps the code.
 #[derive(Clone, Copy, Debug, PartialEq, Eq)]
 pub struct Unsupported(pub u64);
 
-/// The event of an access, where it has this code.
-fn of_code(code: u64, access: Option<Access>) -> Result<Event, Unsupported>
-    requires lawful { IfSome access IsLawfulAccess }
-    ensures event { result ≡ Rattle.vc_handler.specs.Begin.of_code code access }
+/// The event, where it has this code.
+fn of_code(code: u64, event: Option<Event>) -> Result<Event, Unsupported>
+    requires lawful { IfSome event IsLawfulEvent }
+    ensures event { result ≡ Rattle.vc_handler.specs.Begin.of_code code event }
     ensures lawful { IfOk result IsLawfulEvent }
 {
-    match access {
-        Some(access) if row_of(&kind_of(&access)).code == code => Ok(Event::One(access)),
+    match event {
+        Some(event) if row_of(&kind_of_event(&event)).code == code => Ok(event),
         _ => Err(Unsupported(code)),
+    }
+}
+
+/// What an instruction asks: an access, or the next block of a string instruction.
+fn asked(regs: &Regs, ram: &Ram, insn: &Insn) -> Option<Event>
+    ensures value { result ≡ asked_by insn.now (vcpu regs.now ram.now) }
+    ensures lawful { IfSome result IsLawfulEvent }
+{
+    if is_string(insn) {
+        Some(Event::Many(block(regs, ram, insn)?))
+    } else {
+        Some(Event::One(named(regs, ram, insn)?))
     }
 }
 
@@ -79,6 +93,7 @@ impl Vc {
     /// The address of the vCPU's page.
     pub fn ghcb(&self) -> u64
         ensures address { result ≡ pages.ghcb_of self.now }
+        ensures fits { result < 2 ^ 63 }
     {
         ghcb_of(self.vcpu)
     }
@@ -92,7 +107,7 @@ impl Vc {
         let Ok(insn) = decode(ram.code_at(regs.rip)) else {
             return Err(Unsupported(code));
         };
-        of_code(code, named(regs, ram, &insn))
+        of_code(code, asked(regs, ram, &insn))
     }
 
     /// Shows an event: exactly its wire form, in order.
@@ -101,9 +116,7 @@ impl Vc {
         requires room { HasRoom (P.told page.old) 320 }
         ensures wire { Makes (P.told page.old) (wire self.now event.now) (P.told page.new) }
     {
-        let Event::One(access) = event;
-        let row = row_of(&kind_of(access));
-        show_event(page, &row, &registers_of(access), self.ghcb());
+        show_event(page, event, self.ghcb());
     }
 
     /// Takes the reply to an event: exactly these loads, each word at most once, and what they come to.
@@ -113,8 +126,23 @@ impl Vc {
         ensures reads { Reads (accepting event.now) result (P.told page.old) (P.told page.new) }
         ensures room { HasRoom (P.told page.new) 1 }
     {
-        let Event::One(access) = event;
-        take_reply(page, &row_of(&kind_of(access)).results)
+        let mut reply = empty_reply();
+        match self.accept_into(event, page, &mut reply) {
+            Answer::Done => Outcome::Done(reply),
+            Answer::Raise { vector, code } => Outcome::Raise { vector, code },
+            Answer::Terminate(reason) => Outcome::Terminate(reason),
+        }
+    }
+
+    /// Takes the reply to an event as [`Vc::accept`] does, into a place that is handed in: for an access its
+    /// bytes are not moved. Where the answer isn't `Done`, nothing is said of what stands in the place.
+    pub fn accept_into<P: Page>(&self, event: &Event, page: &mut P, reply: &mut Reply) -> Answer
+        requires lawful { IsLawfulEvent event.now }
+        requires room { HasRoom (P.told page.old) 320 }
+        ensures reads { Reads (accepting event.now) (outcome_in result reply.new) (P.told page.old) (P.told page.new) }
+        ensures room { HasRoom (P.told page.new) 1 }
+    {
+        take_reply(page, event, reply)
     }
 
     /// Asks the host for its versions of the protocol.

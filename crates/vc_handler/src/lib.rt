@@ -15,4 +15,5 @@ pub mod laws;
 mod tests;
 mod wire;
 
+pub use accept::{Answer, empty_reply};
 pub use handler::{Unsupported, Vc};

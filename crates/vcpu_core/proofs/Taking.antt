@@ -12,10 +12,10 @@ use Rattle.exit_info.specs.declared.inject.Inject.{Inject}
 use Rattle.exit_info.specs.declared.inject.BadInject.{BadInject}
 use Rattle.exit_info.specs.Inject.{exception_type as exception_type, layout, request_of}
 use Rattle.event_table.specs.declared.event.Event.{Event}
-use Rattle.event_table.specs.declared.event.Event.TheVariants.{One}
 use Rattle.event_table.specs.declared.outcome.Outcome.{Outcome}
 use Rattle.event_table.specs.declared.row.Results.{Results}
-use Rattle.event_table.specs.Rows.{event_row, kind_of}
+use Rattle.event_table.specs.Rows.{bytes_back, event_row, kind_of_event}
+use Rattle.string_io.specs.Buffers.{loaded_bytes}
 use Rattle.vc_handler.specs.Accept.{accepting, accepting_by, bitmap, has_all, outcome_requested, loaded_results, loaded_values}
 use Rattle.event_table.specs.Raising.{IsRaisable}
 use Rattle.vcpu_core.specs.Resuming.{IsTakable}
@@ -46,20 +46,20 @@ takable_word word =
     (λ _. requested_if word (number_in word layout.type == exception_type) _ _
     (λ _. requested_if word ((vector == 6) || (vector == 13)) _ _ (λ is. raisable vector is) tt) tt) tt
 
-results_come : (r : Results) → Comes IsTakable (loaded_results r)
+results_come : (r : Results) (count : ℕ) → Comes IsTakable (loaded_results r count)
 unfolding listen
-results_come r =
+results_come r count =
     comes_then IsTakable (bitmap r) _
-    (λ b. comes_either IsTakable (has_all r b) _ _ (comes_then IsTakable (loaded_values r) _ (λ v. tt)) tt)
+    (λ b. comes_either IsTakable (has_all r b) _ _ (comes_then IsTakable (loaded_values r) _ (λ v. comes_then IsTakable (loaded_bytes count) _ (λ bytes. tt))) tt)
 
-replies_come : (r : Results) → Comes IsTakable (accepting_by r)
+replies_come : (r : Results) (count : ℕ) → Comes IsTakable (accepting_by r count)
 unfolding listen ◌>>=◌
-replies_come r = λ status.
-    comes_either IsTakable (status % 2 ^ 32 == 0) _ _ (results_come r)
+replies_come r count = λ status.
+    comes_either IsTakable (status % 2 ^ 32 == 0) _ _ (results_come r count)
     (comes_either IsTakable (status % 2 ^ 32 == 1) _ _ (λ word. takable_word word) tt)
 
 accepts_takable : (event : Event) → Comes IsTakable (accepting event)
-accepts_takable (One access) = replies_come (event_row (kind_of access)).results
+accepts_takable event = replies_come (event_row (kind_of_event event)).results (bytes_back (kind_of_event event))
 
 -- what is read of a reply can be taken
 pub takable : (event : Event) (outcome : Outcome) (t u : Told) → Reads (accepting event) outcome t u → IsTakable outcome

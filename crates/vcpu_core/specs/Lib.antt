@@ -1,3 +1,4 @@
+pub mod Phase
 pub mod State
 pub mod Running
 pub mod Resuming

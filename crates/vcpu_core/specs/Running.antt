@@ -1,12 +1,13 @@
 -- A vCPU goes on to its next exit.
-use Rattle.std.specs.Prelude.{ℕ, List, [], ◌∷◌}
+use Rattle.std.specs.Prelude.{ℕ, ◌+◌, ◌<◌, List, [], ◌∷◌}
 use Rattle.page_words.specs.declared.item.Item.{Item}
 use Rattle.page_words.specs.declared.item.Item.TheVariants.{Exit}
+use Rattle.event_table.specs.Lawful.{count_of}
 use Rattle.guest_interp.specs.Stepping.{Counted, Standstill, Waits, Ended, next_within}
 use Rattle.vc_handler.specs.Version.{question}
 use Rattle.vc_handler.specs.Wire.{wire}
-use Rattle.vcpu_core.specs.declared.phase.Phase.{Phase}
-use Rattle.vcpu_core.specs.declared.phase.Phase.TheVariants as phase
+use Rattle.vcpu_core.specs.Phase.{Phase}
+use Rattle.vcpu_core.specs.Phase as phase
 use Rattle.vcpu_core.specs.declared.vcpu.Progress.{Progress}
 use Rattle.vcpu_core.specs.declared.vcpu.Progress.TheVariants as progress
 use Rattle.vcpu_core.specs.State.{State, state}
@@ -38,6 +39,14 @@ items_said_by _ budget i c = []
 
 abbrev pub items_said : ℕ → State → List Item
 items_said budget s = items_said_by s.phase budget s.number s.cpu
+
+-- where one that goes by itself comes to an event, the event leads past the budget by less than 2,032 steps
+abbrev pub IsWithinBy : Phase → Phase → ℕ → ℕ → Type 0
+IsWithinBy phase.Going (phase.Waits event) budget steps = steps + count_of event < budget + 2032
+IsWithinBy _ _ budget steps = Unit {0}
+
+abbrev pub IsWithin : ℕ → State → State → Type 0
+IsWithin budget old new = IsWithinBy old.phase new.phase budget new.cpu.steps
 
 -- Ended where it has ended, and else it stands at an exit
 abbrev pub progress_in : Phase → Progress

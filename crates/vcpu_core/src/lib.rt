@@ -6,7 +6,7 @@
 
 mod handled_guest;
 pub mod laws;
-mod phase;
+mod stage;
 #[cfg(test)]
 mod tests;
 mod vcpu;

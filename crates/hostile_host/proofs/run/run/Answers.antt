@@ -23,9 +23,9 @@ returns-then-is_some-clause-runs g c =
 pub turns-smaller : goal.turns-smaller
 turns-smaller g c =
     let none : is_some (end_in c.turn.new.vcpu.phase) ≡ false = search rules in
-    (leads_on _ _ c.turns.vcpu c.turn.new.vcpu _ _ _ c.turns.invariant c.in_ok-turn.ensures.runs c.in_ok-turn.ensures.rests none).1
+    (leads_on _ _ c.turns.vcpu c.turn.new.vcpu _ _ _ c.turns.invariant c.in_ok-turn.ensures.runs c.in_ok-turn.ensures.lawful c.in_ok-turn.ensures.rests none).1
 
 pub turns-preserved : goal.turns-preserved
 turns-preserved g c =
     let none : is_some (end_in c.turn.new.vcpu.phase) ≡ false = search rules in
-    (leads_on _ _ c.turns.vcpu c.turn.new.vcpu _ _ _ c.turns.invariant c.in_ok-turn.ensures.runs c.in_ok-turn.ensures.rests none).0
+    (leads_on _ _ c.turns.vcpu c.turn.new.vcpu _ _ _ c.turns.invariant c.in_ok-turn.ensures.runs c.in_ok-turn.ensures.lawful c.in_ok-turn.ensures.rests none).0

@@ -1,5 +1,6 @@
 use Rattle.std.proofs.Common.{Ok, Err, refl}
 use Rattle.guest_interp.specs.Guest.{counted_vcpu}
+use Rattle.vcpu_core.specs.State.{standing}
 use Rattle.vcpu_core.proofs.Settling.{agrees, disagrees}
 use Rattle.vc_handler.proofs.Negotiating.{left_room}
 use Rattle.vcpu_core.proofs.handled_guest.HandledGuest.take_versions.Goals as goal
@@ -7,9 +8,9 @@ use Rattle.vcpu_core.proofs.handled_guest.HandledGuest.take_versions.Goals as go
 pub returns-in-Err-clause-runs : goal.returns-in-Err-clause-runs
 returns-in-Err-clause-runs g c =
     let told = g.P.Page.told in
-    rw c.end_with.ensures.phase
-    (disagrees c.args.image.now c.args.self.now.vc (counted_vcpu c.args.self.now.guest) (Err c.in-Err.reason) c.in-Err.reason
-    (told c.args.page.now) (told c.negotiate.new.page) (told c.end_with.new.page) refl c.in-Err.ensures.reads c.end_with.ensures.exit)
+    disagrees c.args.image.now c.args.self.now.vc (counted_vcpu c.args.self.now.guest) (Err c.in-Err.reason) c.in-Err.reason
+    (standing c.end_with.new.self c.end_with.result) (told c.args.page.now) (told c.negotiate.new.page) (told c.end_with.new.page)
+    refl c.in-Err.ensures.reads c.end_with.ensures.goes c.end_with.ensures.exit
 
 pub returns-in-Ok-clause-runs : goal.returns-in-Ok-clause-runs
 returns-in-Ok-clause-runs g c =
