@@ -4,7 +4,6 @@ use Rattle.std.proofs.Math.Nat.{mod-eq_of_lt}
 use Rattle.image_file.specs.Format.{most_vcpus}
 use Rattle.event_table.specs.declared.access.Access.{Access}
 use Rattle.event_table.specs.declared.access.Access.TheVariants as a
-use Rattle.event_table.specs.declared.event.Event.TheVariants.{One}
 use Rattle.event_table.specs.declared.row.Kind.{Kind}
 use Rattle.event_table.specs.declared.row.Kind.TheVariants as k
 use Rattle.event_table.specs.Lawful.{IsSize, IsLawfulAccess}
@@ -18,17 +17,17 @@ use Rattle.ghcb_layout.specs.Address.{ghcb_of}
 use Rattle.word_bits.specs.Bits.{bits as bits_at, number_in}
 use Rattle.msr_protocol.specs.MsrWord.{read_of}
 use Rattle.msr_protocol.specs.declared.msr_word.MsrWord.TheVariants.{GhcbAddress}
-use Rattle.host_events.specs.declared.call.Call.TheVariants.{Asked}
+use Rattle.host_events.specs.Call.{Asked}
 use Rattle.host_events.specs.Calls.{page_call}
-use Rattle.host_events.specs.Reading.{access_in, is_event, io_kind, kind_by, has_infos, has_shown}
+use Rattle.host_events.specs.Reading.{event_in, is_event, io_kind, kind_by, has_count, has_infos, has_scratch, has_shown, names_buffer}
 
 -- a size of port I/O as bits, and back
-size_bits : (size : ℕ) → IsSize size → let bits = bits_of (io_width size) in (bits ≡ 8) ⊎ (bits ≡ 16) ⊎ (bits ≡ 32)
+pub size_bits : (size : ℕ) → IsSize size → let bits = bits_of (io_width size) in (bits ≡ 8) ⊎ (bits ≡ 16) ⊎ (bits ≡ 32)
 size_bits size (inl one) = rw one (inl refl)
 size_bits size (inr (inl two)) = rw two (inr (inl refl))
 size_bits size (inr (inr four)) = rw four (inr (inr refl))
 
-size_back : (size : ℕ) → IsSize size → bits_of (io_width size) / 8 ≡ size
+pub size_back : (size : ℕ) → IsSize size → bits_of (io_width size) / 8 ≡ size
 size_back size (inl one) = rw one refl
 size_back size (inr (inl two)) = rw two refl
 size_back size (inr (inr four)) = rw four refl
@@ -37,18 +36,37 @@ io_back : (port size : ℕ) (input : Bool) → port < 2 ^ 16 → IsSize size →
 io_back port size input fits is =
     info_of-word_of (io_of port size input) (record { size = size_bits size is; address = inr (inr refl); segment = omega arith; port = fits })
 
--- the exit code and SW_EXITINFO1 name the kind again
-pub kind_back : (access : Access) → IsLawfulAccess access → kind_by (exit_code_of (event_row (kind_of access)).code) (event_row (kind_of access)).info ≡ Some (kind_of access)
-kind_back (a.Out port size value) lawful = ap io_kind (io_back port size false lawful.0 lawful.1) ∙ ap (λ s. Some (k.Out port s)) (size_back size lawful.1)
-kind_back (a.In port size) lawful = ap io_kind (io_back port size true lawful.0 lawful.1) ∙ ap (λ s. Some (k.In port s)) (size_back size lawful.1)
-kind_back (a.Cpuid leaf sub) lawful = refl
-kind_back (a.Rdmsr msr) lawful = refl
-kind_back (a.Wrmsr msr low high) lawful = refl
-kind_back a.Rdtsc lawful = refl
-kind_back a.Rdtscp lawful = refl
-kind_back (a.Rdpmc index) lawful = refl
-kind_back a.Wbinvd lawful = refl
-kind_back (a.Vmmcall rax) lawful = refl
+-- the exit code and SW_EXITINFO1 name the kind again, whatever the count is
+pub kind_back : (access : Access) (count : ℕ) → IsLawfulAccess access →
+    kind_by (exit_code_of (event_row (kind_of access)).code) (event_row (kind_of access)).info count ≡ Some (kind_of access)
+kind_back (a.Out port size value) count lawful = ap (λ r. io_kind r count) (io_back port size false lawful.0 lawful.1) ∙ ap (λ s. Some (k.Out port s)) (size_back size lawful.1)
+kind_back (a.In port size) count lawful = ap (λ r. io_kind r count) (io_back port size true lawful.0 lawful.1) ∙ ap (λ s. Some (k.In port s)) (size_back size lawful.1)
+kind_back (a.Cpuid leaf sub) count lawful = refl
+kind_back (a.Rdmsr msr) count lawful = refl
+kind_back (a.Wrmsr msr low high) count lawful = refl
+kind_back a.Rdtsc count lawful = refl
+kind_back a.Rdtscp count lawful = refl
+kind_back (a.Rdpmc index) count lawful = refl
+kind_back a.Wbinvd count lawful = refl
+kind_back (a.Vmmcall rax) count lawful = refl
+
+-- an access has its data in registers, and its code is one of the table
+pub record InRegisters (kind : Kind) : Type 0 where
+  pub scratch : (event_row kind).scratch ≡ false
+  pub count : has_count kind ≡ true
+  pub event : is_event (exit_code_of (event_row kind).code) ≡ true
+
+pub in_registers : (access : Access) → InRegisters (kind_of access)
+in_registers (a.Out port size value) = record { scratch = refl; count = refl; event = refl }
+in_registers (a.In port size) = record { scratch = refl; count = refl; event = refl }
+in_registers (a.Cpuid leaf sub) = record { scratch = refl; count = refl; event = refl }
+in_registers (a.Rdmsr msr) = record { scratch = refl; count = refl; event = refl }
+in_registers (a.Wrmsr msr low high) = record { scratch = refl; count = refl; event = refl }
+in_registers a.Rdtsc = record { scratch = refl; count = refl; event = refl }
+in_registers a.Rdtscp = record { scratch = refl; count = refl; event = refl }
+in_registers (a.Rdpmc index) = record { scratch = refl; count = refl; event = refl }
+in_registers a.Wbinvd = record { scratch = refl; count = refl; event = refl }
+in_registers (a.Vmmcall rax) = record { scratch = refl; count = refl; event = refl }
 
 -- a word with bits 11:0 clear is an address
 by_low : (word : ℕ) → number_in word (bits_at 11 0) ≡ 0 → read_of word ≡ Ok (GhcbAddress (number_in word (bits_at 63 12) * 2 ^ 12))
@@ -74,23 +92,12 @@ out_back x value size is (inr (inr four)) fits = grind arith
 abbrev pub bits : ℕ → ℕ → Bitmap
 bits low high = record { low = low; high = high }
 
--- the code of an event is one of the table
-pub is_event_back : (access : Access) → is_event (exit_code_of (event_row (kind_of access)).code) ≡ true
-is_event_back (a.Out port size value) = refl
-is_event_back (a.In port size) = refl
-is_event_back (a.Cpuid leaf sub) = refl
-is_event_back (a.Rdmsr msr) = refl
-is_event_back (a.Wrmsr msr low high) = refl
-is_event_back a.Rdtsc = refl
-is_event_back a.Rdtscp = refl
-is_event_back (a.Rdpmc index) = refl
-is_event_back a.Wbinvd = refl
-is_event_back (a.Vmmcall rax) = refl
-
--- the page asks for the access that its registers give, where the rules hold
-pub asked_at : (word : ℕ → ℕ) (kind : Kind) (low high : ℕ)
+-- the page asks for the event of its kind, where the rules hold
+pub asked_at : (i : ℕ) (word : ℕ → ℕ) (kind : Kind) (low high : ℕ)
     → word 511 ≡ 0x10000 → word 126 ≡ low → word 127 ≡ high → has_infos (bits low high) ≡ true
-    → is_event (exit_code_of (word 114)) ≡ true → kind_by (exit_code_of (word 114)) (word 115) ≡ Some kind
+    → is_event (exit_code_of (word 114)) ≡ true → kind_by (exit_code_of (word 114)) (word 115) (word 116) ≡ Some kind
     → has_shown (event_row kind) (word 63) (bits low high) ≡ true
-    → page_call word ≡ Asked (One (access_in word kind))
-asked_at word kind first second protocol is_low is_high infos event named shown = rw (protocol, is_high, infos, event, named, is_low, shown) refl
+    → has_scratch (event_row kind) (bits low high) ≡ true → names_buffer i (event_row kind) (word 117) ≡ true → has_count kind ≡ true
+    → page_call i word ≡ Asked (event_in word kind)
+asked_at i word kind first second protocol is_low is_high infos event named shown scratch names count =
+    rw (protocol, is_high, infos, event, named, is_low, is_high, shown, scratch, names, count) refl

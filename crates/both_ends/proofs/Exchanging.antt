@@ -1,11 +1,9 @@
 -- An exit of a guest over a host.
 use Rattle.std.proofs.Common.{◌≡◌, ℕ, ◌<◌, List, [], ◌++◌, length, Some, None, refl, sym, ap, ◌∙◌, subst}
 use Rattle.std.specs.Prelude.{Option, option_map, IfSome}
-use Rattle.std.proofs.lemmas.Option.{same_Some}
 use Rattle.image_file.specs.Format.{most_vcpus}
-use Rattle.page_words.specs.Told.{Told, Kept, Makes, keeping, kept_after_all}
+use Rattle.page_words.specs.Told.{Kept, Makes, keeping, kept_after_all}
 use Rattle.page_words.specs.Dialogue.{Reads}
-use Rattle.page_words.proofs.Making.{kept-after_all}
 use Rattle.page_words.proofs.Reading.{reads_found}
 use Rattle.event_table.specs.declared.event.Event.{Event}
 use Rattle.event_table.specs.declared.outcome.Outcome.{Outcome}
@@ -17,7 +15,8 @@ use Rattle.event_table.specs.declared.turn.Entry.{Entry}
 use Rattle.device_bus.specs.History.{after_event}
 use Rattle.host_events.specs.Hosting.{Hosting, after_serve, Leaves}
 use Rattle.host_events.specs.Served.{served}
-use Rattle.both_ends.specs.BothEnds.{Agrees, outcome_on, outcome_of, answer_to}
+use Rattle.host_events.proofs.Blocks.{makes_kept}
+use Rattle.both_ends.specs.BothEnds.{Agrees, outcome_on, outcome_to}
 use Rattle.both_ends.specs.Exchange.{Exchanged}
 use Rattle.both_ends.proofs.Agreeing.{ends_agree}
 
@@ -33,7 +32,7 @@ done i event page (Some d) agrees = ap (λ (e : Devices). Some e) (agrees d).dev
 
 -- the guest takes what the devices say that are told
 takes_what : (i : ℕ) (event : Event) (page left : Kept) (told : Option Devices) (outcome : Outcome) → AgreesAt i event page →
-    IfSome told (λ d. left ≡ (served i page d).page) → outcome ≡ outcome_on event left → IfSome told (λ d. outcome ≡ outcome_of (answer_to d i event))
+    IfSome told (λ d. left ≡ (served i page d).page) → outcome ≡ outcome_on event left → IfSome told (λ d. outcome ≡ outcome_to d i event)
 takes_what i event page left None outcome agrees leaves takes = tt
 takes_what i event page left (Some d) outcome agrees leaves takes =
     takes ∙ ap (λ (k : Kept). outcome_on event k) leaves ∙ (agrees d).outcome
@@ -41,7 +40,7 @@ takes_what i event page left (Some d) outcome agrees leaves takes =
 -- the page after an event was shown
 shows : (before page : Kept) (i : ℕ) (event : Event) → Makes (keeping before) (wire i event) (keeping page) → page ≡ kept_after_all before (wire i event)
 shows before page i event makes =
-    same_Some _ _ (ap (λ (t : Told). t.kept) makes.leaves ∙ kept-after_all (keeping before) (wire i event) before refl)
+    makes_kept before page (wire i event) makes
 
 pub exchanged : (i : ℕ) (event : Event) (before page left after : Kept) (old new : Hosting) (outcome : Outcome) →
     i < most_vcpus → IsLawfulEvent event → length before.words ≡ 512 →

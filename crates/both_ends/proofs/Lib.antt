@@ -1,3 +1,6 @@
+pub mod Again
+pub mod Shown
+pub mod Bytes
 pub mod Back
 pub mod Taken
 pub mod Agreeing

@@ -1,5 +1,5 @@
 -- A reply, as the guest takes it.
-use Rattle.std.proofs.Common.{◌≡◌, ℕ, ◌^◌, ◌<◌, Bool, true, false, ap, ◌∙◌, lit<}
+use Rattle.std.proofs.Common.{◌≡◌, ℕ, ◌^◌, ◌<◌, Bool, true, false, [], ap, ◌∙◌, lit<}
 use Rattle.std.specs.Prelude.{◌==◌, ◌&&◌, if◌then◌else◌}
 use Rattle.page_words.specs.Programs.{found, ◌>>=◌}
 use Rattle.page_words.proofs.Keeping.{word_after_all}
@@ -18,69 +18,70 @@ use Rattle.both_ends.proofs.Back.{bits}
 use Rattle.host_events.specs.Served.{reply_by}
 use Rattle.both_ends.specs.BothEnds.{outcome_of}
 
-abbrev values : ℕ → ℕ → ℕ → ℕ → Values
+abbrev pub values : ℕ → ℕ → ℕ → ℕ → Values
 values a c d b = record { a = a; c = c; d = d; b = b }
 
 -- of a page that was left with this reply the guest takes it
 abbrev pub Takes : Results → Answer → Type 0
-Takes r x = (word old : ℕ → ℕ) (msr : ℕ) → ((n : ℕ) → n < 512 → word n ≡ word_after_all (reply_by r x) n (old n)) → found (accepting_by r) word msr ≡ outcome_of x
+Takes r x = (word old : ℕ → ℕ) (msr : ℕ) → ((n : ℕ) → n < 512 → word n ≡ word_after_all (reply_by r x) n (old n)) → found (accepting_by r 0) word msr ≡ outcome_of x
 
 -- the status is loaded first
-by_status : (r : Results) (word : ℕ → ℕ) (msr status : ℕ) → word 115 ≡ status → found (accepting_by r) word msr ≡ found (accept.by_status r status) word msr
+pub by_status : (r : Results) (back : ℕ) (word : ℕ → ℕ) (msr status : ℕ) → word 115 ≡ status →
+    found (accepting_by r back) word msr ≡ found (accept.by_status r back status) word msr
 unfolding ◌>>=◌
-by_status r word msr status is = ap (λ s. found (accept.by_status r s) word msr) is
+by_status r back word msr status is = ap (λ s. found (accept.by_status r back s) word msr) is
 
 -- replies by the registers that have results
 takes_none : Takes (results 0 0 0 0) (Done (values 0 0 0 0))
 unfolding ◌>>=◌
-takes_none word old msr at = by_status (results 0 0 0 0) word msr 0 (at 115 (lit< tt))
+takes_none word old msr at = by_status (results 0 0 0 0) 0 word msr 0 (at 115 (lit< tt))
 
 takes_a : (a : ℕ) → Takes (results 1 0 0 0) (Done (values a 0 0 0))
 unfolding ◌>>=◌
 takes_a a word old msr at =
     let r = results 1 0 0 0 in
-    by_status r word msr 0 (at 115 (lit< tt))
-    ∙ ap (λ low. found (accept.results_by r (bits low 0)) word msr) (at 126 (lit< tt))
-    ∙ ap (λ x. accept.outcome_done (values x 0 0 0)) (at 63 (lit< tt))
+    by_status r 0 word msr 0 (at 115 (lit< tt))
+    ∙ ap (λ low. found (accept.results_by r 0 (bits low 0)) word msr) (at 126 (lit< tt))
+    ∙ ap (λ x. accept.outcome_done (values x 0 0 0) []) (at 63 (lit< tt))
 
 takes_ad : (a d : ℕ) → Takes (results 1 0 1 0) (Done (values a 0 d 0))
 unfolding ◌>>=◌
 takes_ad a d word old msr at =
     let r = results 1 0 1 0 in
-    by_status r word msr 0 (at 115 (lit< tt))
-    ∙ ap (λ low. found (accept.results_by r (bits low (word 127))) word msr) (at 126 (lit< tt))
-    ∙ ap (λ high. found (accept.results_by r (bits (2 ^ 63) high)) word msr) (at 127 (lit< tt))
-    ∙ ap (λ x. accept.outcome_done (values x 0 (word 98) 0)) (at 63 (lit< tt))
-    ∙ ap (λ x. accept.outcome_done (values a 0 x 0)) (at 98 (lit< tt))
+    by_status r 0 word msr 0 (at 115 (lit< tt))
+    ∙ ap (λ low. found (accept.results_by r 0 (bits low (word 127))) word msr) (at 126 (lit< tt))
+    ∙ ap (λ high. found (accept.results_by r 0 (bits (2 ^ 63) high)) word msr) (at 127 (lit< tt))
+    ∙ ap (λ x. accept.outcome_done (values x 0 (word 98) 0) []) (at 63 (lit< tt))
+    ∙ ap (λ x. accept.outcome_done (values a 0 x 0) []) (at 98 (lit< tt))
 
 takes_acd : (a c d : ℕ) → Takes (results 1 1 1 0) (Done (values a c d 0))
 unfolding ◌>>=◌
 takes_acd a c d word old msr at =
     let r = results 1 1 1 0 in
-    by_status r word msr 0 (at 115 (lit< tt))
-    ∙ ap (λ low. found (accept.results_by r (bits low (word 127))) word msr) (at 126 (lit< tt))
-    ∙ ap (λ high. found (accept.results_by r (bits (2 ^ 63) high)) word msr) (at 127 (lit< tt))
-    ∙ ap (λ x. accept.outcome_done (values x (word 97) (word 98) 0)) (at 63 (lit< tt))
-    ∙ ap (λ x. accept.outcome_done (values a x (word 98) 0)) (at 97 (lit< tt))
-    ∙ ap (λ x. accept.outcome_done (values a c x 0)) (at 98 (lit< tt))
+    by_status r 0 word msr 0 (at 115 (lit< tt))
+    ∙ ap (λ low. found (accept.results_by r 0 (bits low (word 127))) word msr) (at 126 (lit< tt))
+    ∙ ap (λ high. found (accept.results_by r 0 (bits (2 ^ 63) high)) word msr) (at 127 (lit< tt))
+    ∙ ap (λ x. accept.outcome_done (values x (word 97) (word 98) 0) []) (at 63 (lit< tt))
+    ∙ ap (λ x. accept.outcome_done (values a x (word 98) 0) []) (at 97 (lit< tt))
+    ∙ ap (λ x. accept.outcome_done (values a c x 0) []) (at 98 (lit< tt))
 
 takes_all : (a c d b : ℕ) → Takes (results 1 1 1 1) (Done (values a c d b))
 unfolding ◌>>=◌
 takes_all a c d b word old msr at =
     let r = results 1 1 1 1 in
-    by_status r word msr 0 (at 115 (lit< tt))
-    ∙ ap (λ low. found (accept.results_by r (bits low (word 127))) word msr) (at 126 (lit< tt))
-    ∙ ap (λ high. found (accept.results_by r (bits (2 ^ 63) high)) word msr) (at 127 (lit< tt))
-    ∙ ap (λ x. accept.outcome_done (values x (word 97) (word 98) (word 99))) (at 63 (lit< tt))
-    ∙ ap (λ x. accept.outcome_done (values a x (word 98) (word 99))) (at 97 (lit< tt))
-    ∙ ap (λ x. accept.outcome_done (values a c x (word 99))) (at 98 (lit< tt))
-    ∙ ap (λ x. accept.outcome_done (values a c d x)) (at 99 (lit< tt))
+    by_status r 0 word msr 0 (at 115 (lit< tt))
+    ∙ ap (λ low. found (accept.results_by r 0 (bits low (word 127))) word msr) (at 126 (lit< tt))
+    ∙ ap (λ high. found (accept.results_by r 0 (bits (2 ^ 63) high)) word msr) (at 127 (lit< tt))
+    ∙ ap (λ x. accept.outcome_done (values x (word 97) (word 98) (word 99)) []) (at 63 (lit< tt))
+    ∙ ap (λ x. accept.outcome_done (values a x (word 98) (word 99)) []) (at 97 (lit< tt))
+    ∙ ap (λ x. accept.outcome_done (values a c x (word 99)) []) (at 98 (lit< tt))
+    ∙ ap (λ x. accept.outcome_done (values a c d x) []) (at 99 (lit< tt))
 
 -- a general protection exception
 takes_raise : (r : Results) → Takes r raise_gp
 unfolding ◌>>=◌
 takes_raise r word old msr at =
-    by_status r word msr 1 (at 115 (lit< tt))
+    by_status r 0 word msr 1 (at 115 (lit< tt))
     ∙ ap (λ w. accept.outcome_requested w (request_of w)) (at 116 (lit< tt))
 
 -- an answer that depends on a test

@@ -4,7 +4,7 @@ use Rattle.event_table.specs.declared.event.Event.{Event}
 use Rattle.event_table.specs.declared.outcome.Outcome.{Outcome}
 use Rattle.device_bus.specs.History.{after_event}
 use Rattle.host_events.specs.Hosting.{Hosting}
-use Rattle.both_ends.specs.BothEnds.{outcome_of, answer_to}
+use Rattle.both_ends.specs.BothEnds.{outcome_to}
 
 -- The devices did the event, the history gained its entry, and the guest took what the devices said, as far as the
 -- host tells these.
@@ -12,4 +12,4 @@ pub record Exchanged (i : ℕ) (event : Event) (old new : Hosting) (taken : Outc
   pub vcpus : new.vcpus ≡ old.vcpus
   pub devices : new.devices ≡ option_map (λ d. after_event d i event) old.devices
   pub history : new.history ≡ option_map (λ entries. entries ++ record { vcpu = i; event = event } ∷ []) old.history
-  pub outcome : IfSome old.devices (λ d. taken ≡ outcome_of (answer_to d i event))
+  pub outcome : IfSome old.devices (λ d. taken ≡ outcome_to d i event)

@@ -1,5 +1,5 @@
 use crate::exchange;
-use event_table::{Access, Event, Outcome};
+use event_table::{Access, Block, Bytes, Event, Outcome};
 use host_events::{Host, Hypervisor};
 use page_words::Words;
 use std::test::Fail;
@@ -38,5 +38,29 @@ fn the_guest_takes_what_the_devices_say(rt: HostRuntime) -> Result<(), Fail> {
     let outcome = exchange(2, &Event::One(Access::Rdtsc), &mut page, &mut host)?;
     assert_eq!(rt; told(&outcome), Ok((4000, 0)));
     assert_eq!(rt; host.turns(), 5);
+    Ok(())
+}
+
+#[test]
+fn the_guest_takes_the_bytes_of_a_block(rt: HostRuntime) -> Result<(), Fail> {
+    let alloc = rt.alloc();
+    let mut host = Hypervisor::new(alloc);
+    host.start(1, vec![in alloc; 7u8, 9u8]?)?;
+    let mut page = Words::new();
+    let block = Event::Many(Block {
+        port: 0x3F8,
+        size: 1,
+        input: true,
+        rep: true,
+        count: 3,
+        bytes: Bytes::new(),
+    });
+    let outcome = exchange(0, &block, &mut page, &mut host)?;
+    let bytes = match &outcome {
+        Outcome::Done(reply) => reply.bytes.as_slice(),
+        _ => [].as_slice(),
+    };
+    assert_eq!(rt; bytes, [7u8, 9, 0].as_slice());
+    assert_eq!(rt; host.turns(), 1);
     Ok(())
 }

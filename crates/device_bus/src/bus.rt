@@ -148,6 +148,7 @@ impl Bus {
     }
 
     /// Where there is no device, the value is lost.
+    #[inline(always)]
     fn out(&mut self, port: u16, size: u8, value: u32) -> Answer
         requires fits { value < 2 ^ (8 * size) }
         requires room { 1 ≤ self.old.spare }
@@ -237,6 +238,7 @@ impl Bus {
     }
 
     /// One access, but the clock stands.
+    #[inline(always)]
     fn reply(&mut self, vcpu: u16, access: &Access) -> Answer
         requires few { vcpu < most_vcpus }
         requires lawful { IsLawfulAccess access.now }
@@ -263,6 +265,7 @@ impl Bus {
     }
 
     /// One access of a vCPU. It takes no memory, and at most one of the room.
+    #[inline(always)]
     pub fn access(&mut self, vcpu: u16, access: &Access) -> Answer
         requires vcpu { vcpu < self.old.devices.vcpus }
         requires lawful { IsLawfulAccess access.now }

@@ -1,1 +1,3 @@
 pub mod Serving
+pub mod Blocks
+pub mod Keeping

@@ -2,10 +2,9 @@
 use Rattle.std.proofs.Common.{◌≡◌, ℕ, ◌⊎◌, List, [], ◌∷◌, ◌++◌, inl, inr, refl, sym, ap, ◌∙◌}
 use Rattle.page_words.specs.Told.{Kept}
 use Rattle.event_table.specs.declared.event.Event.{Event}
-use Rattle.event_table.specs.declared.event.Event.TheVariants.{One}
 use Rattle.device_bus.specs.Devices.{Devices}
-use Rattle.host_events.specs.declared.call.Call.{Call}
-use Rattle.host_events.specs.declared.call.Call.TheVariants as call
+use Rattle.host_events.specs.Call.{Call}
+use Rattle.host_events.specs.Call as call
 use Rattle.host_events.specs.Calls.{call_of}
 use Rattle.host_events.specs.Served.{served, served_by, entries, entries_by}
 use Rattle.device_bus.specs.History.{after_history}
@@ -17,7 +16,7 @@ devices_by i call.Nothing page d = refl
 devices_by i call.SevInfo page d = refl
 devices_by i (call.Cpuid function register) page d = refl
 devices_by i (call.Malformed bad) page d = refl
-devices_by i (call.Asked (One access)) page d = refl
+devices_by i (call.Asked event) page d = refl
 
 -- the devices afterwards are what the page's entries leave
 pub served_devices : (i : ℕ) (page : Kept) (d : Devices) → (served i page d).devices ≡ after_history d (entries i page)

@@ -1,10 +1,11 @@
 -- What is looked at of a page: its fields' words, their bits, and the kind of event that the exit code and
 -- SW_EXITINFO1 name (AMD 56421, "GHCB Layout" and section 4, the state of each non-automatic exit).
-use Rattle.std.specs.Prelude.{ℕ, ◌/◌, ◌==◌, Bool, true, false, not, ◌&&◌, ◌||◌, if◌then◌else◌, Option, None, Some, Result, Ok, Err, slice_index}
+use Rattle.std.specs.Prelude.{ℕ, zero, suc, ◌+◌, ◌/◌, ◌==◌, nat_le, Bool, true, false, not, ◌&&◌, ◌||◌, if◌then◌else◌, List, [], ◌∷◌, Option, None, Some, Result, Ok, Err, slice_index}
 use Rattle.page_words.specs.Told.{Kept}
 use Rattle.ghcb_layout.specs.declared.bitmap.Bitmap.{Bitmap}
 use Rattle.ghcb_layout.specs.declared.field.Field.{Field}
-use Rattle.ghcb_layout.specs.declared.field.Field.TheVariants.{Cpl, Rax, Rcx, Rdx, ExitCode, ExitInfo1, ExitInfo2, Xcr0}
+use Rattle.ghcb_layout.specs.declared.field.Field.TheVariants.{Cpl, Rax, Rcx, Rdx, ExitCode, ExitInfo1, ExitInfo2, Scratch, Xcr0}
+use Rattle.ghcb_layout.specs.Address.{ghcb_of}
 use Rattle.ghcb_layout.specs.Bitmap.{bitmap_low, bitmap_high, has_bit}
 use Rattle.ghcb_layout.specs.Field.{word_number}
 use Rattle.exit_info.specs.declared.exit_code.ExitCode as code
@@ -14,11 +15,13 @@ use Rattle.exit_info.specs.declared.io_info.IoInfo.{IoInfo}
 use Rattle.exit_info.specs.declared.io_info.BadInfo.{BadInfo}
 use Rattle.exit_info.specs.ExitCode.{exit_code_of}
 use Rattle.exit_info.specs.IoInfo.{info_of}
-use Rattle.event_table.specs.declared.access.Access.{Access}
+use Rattle.event_table.specs.declared.event.Event.{Event}
 use Rattle.event_table.specs.declared.row.Kind.{Kind}
 use Rattle.event_table.specs.declared.row.Kind.TheVariants as kind
 use Rattle.event_table.specs.declared.row.Row.{Row}
-use Rattle.event_table.specs.Rows.{access_of, registers, shows_xcr0}
+use Rattle.event_table.specs.Buffer.{bytes_from, first_word}
+use Rattle.event_table.specs.Lawful.{IsSize}
+use Rattle.event_table.specs.Rows.{event_by, registers, shows_xcr0}
 
 -- the word of a number
 abbrev pub word_in : Kept → ℕ → ℕ
@@ -54,11 +57,12 @@ is_event (Ok codes.MmioRead) = false
 is_event (Ok codes.MmioWrite) = false
 is_event (Ok _) = true
 
--- port I/O by its info; string I/O isn't taken
-abbrev pub io_kind : Result IoInfo BadInfo → Option Kind
-io_kind (Err bad) = None
-io_kind (Ok info) =
-    if info.string then None else
+-- port I/O by its info, and string I/O with its count
+abbrev pub io_kind : Result IoInfo BadInfo → ℕ → Option Kind
+io_kind (Err bad) count = None
+io_kind (Ok info) count =
+    if info.string then (if info.input then Some (kind.Ins info.port (info.size / 8) info.rep count) else
+    Some (kind.Outs info.port (info.size / 8) info.rep count)) else
     if info.input then Some (kind.In info.port (info.size / 8)) else
     Some (kind.Out info.port (info.size / 8))
 
@@ -69,26 +73,67 @@ msr_kind info =
     if info == 1 then Some kind.Wrmsr else
     None
 
--- SW_EXITINFO1 tells more of port I/O and of an MSR alone.
-abbrev pub kind_by : Result code.ExitCode UnknownCode → ℕ → Option Kind
-kind_by (Ok codes.Io) info = io_kind (info_of info)
-kind_by (Ok codes.Msr) info = msr_kind info
-kind_by (Ok codes.Cpuid) info = Some kind.Cpuid
-kind_by (Ok codes.Rdtsc) info = Some kind.Rdtsc
-kind_by (Ok codes.Rdtscp) info = Some kind.Rdtscp
-kind_by (Ok codes.Rdpmc) info = Some kind.Rdpmc
-kind_by (Ok codes.Wbinvd) info = Some kind.Wbinvd
-kind_by (Ok codes.Vmmcall) info = Some kind.Vmmcall
-kind_by (Ok codes.MmioRead) info = None
-kind_by (Ok codes.MmioWrite) info = None
-kind_by (Err unknown) info = None
+-- SW_EXITINFO1 tells more of port I/O and of an MSR alone, and SW_EXITINFO2 is the count of string I/O.
+abbrev pub kind_by : Result code.ExitCode UnknownCode → ℕ → ℕ → Option Kind
+kind_by (Ok codes.Io) info count = io_kind (info_of info) count
+kind_by (Ok codes.Msr) info count = msr_kind info
+kind_by (Ok codes.Cpuid) info count = Some kind.Cpuid
+kind_by (Ok codes.Rdtsc) info count = Some kind.Rdtsc
+kind_by (Ok codes.Rdtscp) info count = Some kind.Rdtscp
+kind_by (Ok codes.Rdpmc) info count = Some kind.Rdpmc
+kind_by (Ok codes.Wbinvd) info count = Some kind.Wbinvd
+kind_by (Ok codes.Vmmcall) info count = Some kind.Vmmcall
+kind_by (Ok codes.MmioRead) info count = None
+kind_by (Ok codes.MmioWrite) info count = None
+kind_by (Err unknown) info count = None
 
 abbrev pub code_in : (ℕ → ℕ) → Result code.ExitCode UnknownCode
 code_in word = exit_code_of (field_in word ExitCode)
 
 abbrev pub kind_in : (ℕ → ℕ) → Option Kind
-kind_in word = kind_by (code_in word) (field_in word ExitInfo1)
+kind_in word = kind_by (code_in word) (field_in word ExitInfo1) (field_in word ExitInfo2)
 
--- the access of a kind, with the registers that the page shows, each cut to its size
-abbrev pub access_in : (ℕ → ℕ) → Kind → Access
-access_in word k = access_of k (registers (field_in word Rax) (field_in word Rcx) (field_in word Rdx))
+-- where the event has its data in the shared buffer: SW_SCRATCH has its bit
+abbrev pub has_scratch : Row → Bitmap → Bool
+has_scratch r bitmap = not r.scratch || has bitmap Scratch
+
+-- and it is the address of the buffer in the page of vCPU i
+abbrev pub names_buffer : ℕ → Row → ℕ → Bool
+names_buffer i r scratch = not r.scratch || (scratch == ghcb_of i + 0x800)
+
+-- from one element to as many as fit the buffer, and one without REP
+abbrev pub is_count : ℕ → Bool → ℕ → Bool
+is_count size rep count = nat_le 1 count && nat_le count (2032 / size) && (rep || (count == 1))
+
+-- the count of string I/O is one that a block can have
+abbrev pub has_count : Kind → Bool
+has_count (kind.Outs port size rep count) = is_count size rep count
+has_count (kind.Ins port size rep count) = is_count size rep count
+has_count _ = true
+
+-- a kind of event with a size that port I/O has, and with any count
+abbrev pub HasSize : Kind → Type 0
+HasSize (kind.Out port size) = IsSize size
+HasSize (kind.In port size) = IsSize size
+HasSize (kind.Outs port size rep count) = IsSize size
+HasSize (kind.Ins port size rep count) = IsSize size
+HasSize _ = Unit {0}
+
+-- string I/O, the kinds of event that don't have their data in registers
+abbrev pub IsString : Kind → Type 0
+IsString (kind.Outs port size rep count) = Unit {0}
+IsString (kind.Ins port size rep count) = Unit {0}
+IsString _ = ⊥
+
+-- so many words of a page, from one on
+abbrev pub words_on : (ℕ → ℕ) → ℕ → ℕ → List ℕ
+words_on word zero number = []
+words_on word (suc n) number = word number ∷ words_on word n (number + 1)
+
+-- the bytes of the shared buffer, which has 254 words
+abbrev pub buffer_in : (ℕ → ℕ) → List ℕ
+buffer_in word = bytes_from (words_on word 254 first_word)
+
+-- the event of a kind, with the registers that the page shows, each cut to its size, and the bytes of the buffer
+abbrev pub event_in : (ℕ → ℕ) → Kind → Event
+event_in word k = event_by k (registers (field_in word Rax) (field_in word Rcx) (field_in word Rdx)) (buffer_in word)

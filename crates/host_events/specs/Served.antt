@@ -12,14 +12,16 @@ use Rattle.exit_info.specs.declared.inject.Inject.{Inject}
 use Rattle.exit_info.specs.Inject.{inject_word, IsLawfulInject}
 use Rattle.event_table.specs.declared.access.Values.{Values}
 use Rattle.event_table.specs.declared.event.Event.{Event}
-use Rattle.event_table.specs.declared.event.Event.TheVariants.{One}
+use Rattle.event_table.specs.declared.event.Event.TheVariants.{One, Many}
 use Rattle.event_table.specs.declared.row.Results.{Results}
+use Rattle.event_table.specs.Buffer.{buffer_of}
 use Rattle.event_table.specs.Rows.{event_row, kind_of}
 use Rattle.device_bus.specs.declared.answer.Answer.{Answer}
 use Rattle.device_bus.specs.declared.answer.Answer.TheVariants.{Done, Raise}
-use Rattle.device_bus.specs.Devices.{Devices, answer, after_access, cpuid, register_of}
-use Rattle.host_events.specs.declared.call.Call.{Call}
-use Rattle.host_events.specs.declared.call.Call.TheVariants as call
+use Rattle.device_bus.specs.Devices.{Devices, answer, cpuid, register_of}
+use Rattle.device_bus.specs.History.{after_event, bytes_to}
+use Rattle.host_events.specs.Call.{Call}
+use Rattle.host_events.specs.Call as call
 use Rattle.event_table.specs.declared.turn.Entry.{Entry}
 use Rattle.host_events.specs.Calls.{call_of}
 
@@ -55,9 +57,19 @@ stores_of words = map store (with_bitmap words)
 abbrev pub reply_by : Results → Answer → List Item
 reply_by r a = stores_of (reply_words r a)
 
--- what is stored of the reply to an event
-abbrev pub reply : Event → Answer → List Item
-reply (One access) a = reply_by (event_row (kind_of access)).results a
+-- status 0 without a result in registers
+abbrev pub status_words : List (ℕ × ℕ)
+status_words = (word_number ExitInfo1, 0) ∷ (word_number ExitInfo2, 0) ∷ []
+
+-- what is stored of the reply to a block: status 0, the bytes that come back in the shared buffer, whose words have no
+-- bits, and the valid bitmap
+abbrev pub block_reply : List ℕ → List Item
+block_reply bytes = map store (status_words ++ (buffer_of bytes ++ bitmap_words (bitmap_of status_words)))
+
+-- what is stored of the reply to an event of vCPU i
+abbrev pub reply : Devices → ℕ → Event → List Item
+reply d i (One access) = reply_by (event_row (kind_of access)).results (answer d i access)
+reply d i (Many block) = block_reply (bytes_to d i block)
 
 -- a page that breaks a rule is answered with a general protection exception
 abbrev pub refusal : List Item
@@ -91,9 +103,9 @@ served_by i (call.Cpuid function register) k d = record {
   devices = d;
 }
 served_by i (call.Malformed bad) k d = record { page = kept_after_all k refusal; devices = d }
-served_by i (call.Asked (One access)) k d = record {
-  page = kept_after_all k (reply (One access) (answer d i access));
-  devices = after_access d i access;
+served_by i (call.Asked event) k d = record {
+  page = kept_after_all k (reply d i event);
+  devices = after_event d i event;
 }
 
 -- the page and the devices afterwards

@@ -1,13 +1,20 @@
 // A host that keeps its devices and its history.
-ghost use Rattle.std.specs.Prelude.{◌≡◌, []};
+ghost use Rattle.std.specs.Prelude.{◌≡◌, ◌<◌, [], OnOk, OnErr};
+ghost use Rattle.page_words.specs.Told.{kept_after_all};
+ghost use Rattle.event_table.specs.Lawful.{IsKind, IsOfRegisters};
 ghost use Rattle.device_bus.specs.Devices.{opening};
-ghost use Rattle.host_events.specs.Hypervised.{telling};
+ghost use Rattle.host_events.specs.Hypervised.{after_asked, telling};
+ghost use Rattle.host_events.specs.Reading.{IsString, event_in, word_in};
+ghost use Rattle.host_events.specs.Served.{reply};
 
-use crate::reading::read_call;
-use crate::reply::{cpuid_response, sev_info, store_refusal, store_reply};
-use crate::{Call, Entry, Host};
+use crate::answering::block_bytes;
+use crate::event::{access_in, block_in, is_string};
+use crate::history::History;
+use crate::reading::read_request;
+use crate::reply::{cpuid_response, sev_info, store_block_reply, store_refusal, store_reply};
+use crate::{Host, Request};
 use device_bus::Bus;
-use event_table::{Event, Turn};
+use event_table::{Kind, Turn};
 use page_words::Words;
 use std::alloc::{AllocError as OutOfMemory, Global};
 use std::marker::Model;
@@ -17,7 +24,7 @@ use std::marker::Model;
 pub struct Hypervisor {
     vcpus: u16,
     bus: Bus,
-    history: Vec<Entry>,
+    history: History,
 }
 
 impl Model for Hypervisor {
@@ -27,7 +34,7 @@ impl Model for Hypervisor {
 
     ghost Value = { Hypervised };
 
-    ghost view = { λ h. record { vcpus = h.vcpus; devices = h.bus.devices; history = h.history.items } };
+    ghost view = { λ h. record { vcpus = h.vcpus; devices = h.bus.devices; history = h.history } };
 
     ghost invariant = { λ h. (h.vcpus ≤ most_vcpus) × (h.bus.devices.vcpus ≡ h.vcpus) };
 }
@@ -40,8 +47,47 @@ impl Hypervisor {
         Hypervisor {
             vcpus: 0,
             bus: Bus::new(alloc),
-            history: Vec::new(alloc),
+            history: History::new(alloc),
         }
+    }
+
+    /// Serves a page that asks for an access. The memory is taken before anything changes.
+    fn serve_access(&mut self, vcpu: u16, kind: &Kind, page: &mut Words) -> Result<(), OutOfMemory>
+        requires known { vcpu < self.old.vcpus }
+        requires lawful { IsKind kind.now }
+        requires registers { IsOfRegisters kind.now }
+        ensures ok { OnOk result (self.new ≡ after_asked vcpu (event_in (word_in page.old) kind.now) self.old) }
+        ensures page { let event = event_in (word_in page.old) kind.now in
+            OnOk result (page.new ≡ kept_after_all page.old (reply self.old.devices vcpu event)) }
+        ensures err { OnErr result (self.new ≡ self.old) }
+        ensures err_page { OnErr result (page.new ≡ page.old) }
+    {
+        let access = access_in(page, kind);
+        self.bus.reserve(1)?;
+        self.history.push_access(vcpu, &access)?;
+        let answer = self.bus.access(vcpu, &access);
+        store_reply(&access, &answer, page);
+        Ok(())
+    }
+
+    /// Serves a page that asks for a block. The memory is taken before anything changes.
+    #[inline(never)]
+    fn serve_block(&mut self, vcpu: u16, kind: Kind, page: &mut Words) -> Result<(), OutOfMemory>
+        requires known { vcpu < self.old.vcpus }
+        requires lawful { IsKind kind }
+        requires string { IsString kind }
+        ensures ok { OnOk result (self.new ≡ after_asked vcpu (event_in (word_in page.old) kind) self.old) }
+        ensures page { let event = event_in (word_in page.old) kind in
+            OnOk result (page.new ≡ kept_after_all page.old (reply self.old.devices vcpu event)) }
+        ensures err { OnErr result (self.new ≡ self.old) }
+        ensures err_page { OnErr result (page.new ≡ page.old) }
+    {
+        let block = block_in(page, &kind);
+        self.bus.reserve(usize::from(block.count))?;
+        self.history.push_block(vcpu, &block)?;
+        let bytes = block_bytes(&mut self.bus, vcpu, &block);
+        store_block_reply(bytes.as_slice(), page);
+        Ok(())
     }
 }
 
@@ -55,23 +101,18 @@ impl Host for Hypervisor {
         Ok(())
     }
 
-    // The memory is taken before anything changes.
     fn serve(&mut self, vcpu: u16, page: &mut Words) -> Result<(), OutOfMemory> {
-        self.bus.reserve(1)?;
-        self.history.reserve(1)?;
-        match read_call(vcpu, page) {
-            Call::Nothing => {}
-            Call::SevInfo => page.set_msr(sev_info()),
-            Call::Cpuid { function, register } => {
+        // By the invariant there are few vCPUs.
+        let _ = &self.vcpus;
+        match read_request(vcpu, page) {
+            Request::Nothing => {}
+            Request::SevInfo => page.set_msr(sev_info()),
+            Request::Cpuid { function, register } => {
                 page.set_msr(cpuid_response(vcpu, function, register));
             }
-            Call::Malformed(_) => store_refusal(page),
-            Call::Asked(event) => {
-                let Event::One(access) = event;
-                let answer = self.bus.access(vcpu, &access);
-                store_reply(&event, &answer, page);
-                self.history.push_reserved(Entry { vcpu, event });
-            }
+            Request::Malformed(_) => store_refusal(page),
+            Request::Asked(kind) if is_string(&kind) => self.serve_block(vcpu, kind, page)?,
+            Request::Asked(kind) => self.serve_access(vcpu, &kind, page)?,
         }
         Ok(())
     }
@@ -81,14 +122,10 @@ impl Host for Hypervisor {
     }
 
     fn turns(&self) -> u64 {
-        self.history.len() as u64
+        self.history.len()
     }
 
     fn turn_at(&self, index: u64) -> Option<Turn> {
-        let entry = self.history.get(index as usize)?;
-        Some(Turn {
-            vcpu: entry.vcpu,
-            count: entry.event.count(),
-        })
+        self.history.turn(index)
     }
 }

@@ -1,22 +1,25 @@
 // How a page is read.
-ghost use Rattle.std.specs.Prelude.{◌≡◌, Some, None, IfOk, IfErr, IfSome};
-ghost use Rattle.event_table.specs.Lawful.{IsKind, IsLawfulAccess};
+ghost use Rattle.std.specs.Prelude.{◌≡◌, Some, None, true, IfOk, IfErr, IfSome, OnOk};
+ghost use Rattle.event_table.specs.Lawful.{IsCount, IsKind, IsSize};
 ghost use Rattle.exit_info.specs.IoInfo.{info_of};
-ghost use Rattle.ghcb_layout.specs.Field.{word_number};
 ghost use Rattle.host_events.specs.Reading as page_reading;
-ghost use Rattle.host_events.specs.Reading.{word_in};
+ghost use Rattle.host_events.specs.Reading.{HasSize, word_in};
+ghost use Rattle.host_events.specs.Call as call;
 ghost use Rattle.host_events.specs.Calls as rules;
-ghost use Rattle.host_events.specs.Calls.{IsLawfulCall, call_of, first_broken_rule, page_rules};
+ghost use Rattle.host_events.specs.Calls.{IsLawfulRequest, buffer_rules, call_of, call_on, first_broken_rule, kind_rules, page_rules};
 
-use crate::{BadPage, Call};
-use event_table::{Access, Event, Kind, Registers, Row, access_of, row_of};
+use crate::{BadPage, Request};
+use event_table::{Kind, Row, row_of};
 use exit_info::{ExitCode, IoInfo, UnknownCode};
 use ghcb_layout::{Bitmap, Field, bit_of, ghcb_of, protocol_of, word_of};
 use msr_protocol::{MsrWord, read};
 use page_words::{Word, Words};
 
+/// Where the shared buffer begins in a page (AMD 56421, "GHCB Layout").
+const BUFFER: u64 = 0x800;
+
 /// The word of a field.
-fn field_in(page: &Words, field: Field) -> u64
+pub fn field_in(page: &Words, field: Field) -> u64
     ensures value { result ≡ page_reading.field_in (word_in page.now) field }
 {
     page.word(word_of(field))
@@ -47,6 +50,7 @@ fn has_infos(bitmap: &Bitmap) -> bool
 }
 
 /// Whether each word that a row shows has its bit.
+#[inline(always)]
 fn has_shown(row: &Row, a: u64, bitmap: &Bitmap) -> bool
     ensures value { result ≡ page_reading.has_shown row.now a bitmap.now }
 {
@@ -64,28 +68,35 @@ fn is_event(code: &Result<ExitCode, UnknownCode>) -> bool
     !matches!(code, Err(_) | Ok(ExitCode::MmioRead | ExitCode::MmioWrite))
 }
 
-/// Port I/O by SW_EXITINFO1.
-fn io_kind(info: u64) -> Option<Kind>
-    ensures value { result ≡ page_reading.io_kind (info_of info) }
-    ensures lawful { IfSome result (λ kind. IsKind kind) }
+/// Port I/O by SW_EXITINFO1, and string I/O with its count.
+fn io_kind(info: u64, count: u64) -> Option<Kind>
+    ensures value { result ≡ page_reading.io_kind (info_of info) count }
+    ensures size { IfSome result (λ kind. HasSize kind) }
 {
-    match IoInfo::read(info) {
-        Ok(info) if !info.string => {
-            let (port, size) = (info.port, info.size / 8);
-            Some(if info.input {
-                Kind::In { port, size }
-            } else {
-                Kind::Out { port, size }
-            })
-        }
-        _ => None,
-    }
+    let info = IoInfo::read(info).ok()?;
+    let (port, size, rep) = (info.port, info.size / 8, info.rep);
+    Some(match (info.string, info.input) {
+        (false, false) => Kind::Out { port, size },
+        (false, true) => Kind::In { port, size },
+        (true, false) => Kind::Outs {
+            port,
+            size,
+            rep,
+            count,
+        },
+        (true, true) => Kind::Ins {
+            port,
+            size,
+            rep,
+            count,
+        },
+    })
 }
 
 /// RDMSR or WRMSR by SW_EXITINFO1.
 fn msr_kind(info: u64) -> Option<Kind>
     ensures value { result ≡ page_reading.msr_kind info }
-    ensures lawful { IfSome result (λ kind. IsKind kind) }
+    ensures size { IfSome result (λ kind. HasSize kind) }
 {
     match info {
         0 => Some(Kind::Rdmsr),
@@ -94,13 +105,13 @@ fn msr_kind(info: u64) -> Option<Kind>
     }
 }
 
-/// The kind of the event that the exit code and SW_EXITINFO1 name.
-fn kind_by(code: &Result<ExitCode, UnknownCode>, info: u64) -> Option<Kind>
-    ensures value { result ≡ page_reading.kind_by code.now info }
-    ensures lawful { IfSome result (λ kind. IsKind kind) }
+/// The kind of the event that the exit code and the exit infos name.
+fn kind_by(code: &Result<ExitCode, UnknownCode>, info: u64, count: u64) -> Option<Kind>
+    ensures value { result ≡ page_reading.kind_by code.now info count }
+    ensures size { IfSome result (λ kind. HasSize kind) }
 {
     match *code {
-        Ok(ExitCode::Io) => io_kind(info),
+        Ok(ExitCode::Io) => io_kind(info, count),
         Ok(ExitCode::Msr) => msr_kind(info),
         Ok(ExitCode::Cpuid) => Some(Kind::Cpuid),
         Ok(ExitCode::Rdtsc) => Some(Kind::Rdtsc),
@@ -112,11 +123,102 @@ fn kind_by(code: &Result<ExitCode, UnknownCode>, info: u64) -> Option<Kind>
     }
 }
 
-/// The access that an event's page asks for; the error is the first rule that it breaks.
-fn asked(page: &Words) -> Result<Access, BadPage>
-    ensures kept { IfOk result (λ access. rules.page_call (word_in page.now) ≡ Call.Asked (Event.One access)) }
-    ensures broken { IfErr result (λ bad. first_broken_rule (page_rules (word_in page.now)) ≡ Some bad) }
-    ensures lawful { IfOk result (λ access. IsLawfulAccess access) }
+/// Whether SW_SCRATCH has its bit, where the event has its data in the shared buffer.
+fn has_scratch(row: &Row, bitmap: &Bitmap) -> bool
+    ensures value { result ≡ page_reading.has_scratch row.now bitmap.now }
+{
+    !row.scratch || has(bitmap, Field::Scratch)
+}
+
+/// Whether SW_SCRATCH is the address of the buffer of the vCPU's page, where the event has its data there.
+fn names_buffer(vcpu: u16, row: &Row, scratch: u64) -> bool
+    ensures value { result ≡ page_reading.names_buffer vcpu row.now scratch }
+{
+    !row.scratch || scratch == ghcb_of(vcpu) + BUFFER
+}
+
+/// Whether a block can have so many elements.
+fn is_count(size: u8, rep: bool, count: u64) -> bool
+    requires size { IsSize size }
+    ensures value { result ≡ page_reading.is_count size rep count }
+    ensures lawful { result ≡ true → IsCount size rep count }
+{
+    1 <= count && count <= 2032 / u64::from(size) && (rep || count == 1)
+}
+
+/// Whether the count of string I/O is one that a block can have.
+fn has_count(kind: &Kind) -> bool
+    requires size { HasSize kind.now }
+    ensures value { result ≡ page_reading.has_count kind.now }
+    ensures lawful { result ≡ true → IsKind kind.now }
+{
+    match *kind {
+        Kind::Outs {
+            size,
+            rep,
+            count,
+            ..
+        }
+        | Kind::Ins {
+            size,
+            rep,
+            count,
+            ..
+        } => { is_count(size, rep, count) }
+        _ => true,
+    }
+}
+
+/// Tests the rules of data in the shared buffer; the error is the first that the page breaks.
+fn fits_buffer(vcpu: u16, page: &Words, bitmap: Bitmap, kind: Kind) -> Result<(), BadPage>
+    requires size { HasSize kind }
+    ensures kept { OnOk result (first_broken_rule (buffer_rules vcpu kind (word_in page.now) bitmap) ≡ None) }
+    ensures broken { IfErr result (λ bad.
+        first_broken_rule (buffer_rules vcpu kind (word_in page.now) bitmap) ≡ Some bad) }
+    ensures lawful { OnOk result (IsKind kind) }
+{
+    let row = row_of(&kind);
+    if !has_scratch(&row, &bitmap) {
+        return Err(BadPage::Missing);
+    }
+    if !names_buffer(vcpu, &row, field_in(page, Field::Scratch)) {
+        return Err(BadPage::Buffer);
+    }
+    if !has_count(&kind) {
+        return Err(BadPage::Invalid);
+    }
+    Ok(())
+}
+
+/// Tests the rules of a page that are of its kind of event; the error is the first that it breaks.
+#[inline(always)]
+fn fits(vcpu: u16, page: &Words, bitmap: &Bitmap, kind: &Kind) -> Result<(), BadPage>
+    requires size { HasSize kind.now }
+    ensures kept { OnOk result (first_broken_rule (kind_rules vcpu kind.now (word_in page.now) bitmap.now) ≡ None) }
+    ensures broken { let tests = kind_rules vcpu kind.now (word_in page.now) bitmap.now in
+        IfErr result (λ bad. first_broken_rule tests ≡ Some bad) }
+    ensures lawful { OnOk result (IsKind kind.now) }
+{
+    match kind {
+        // It shows no register.
+        Kind::Outs { .. } | Kind::Ins { .. } => fits_buffer(vcpu, page, *bitmap, *kind),
+        _ => {
+            if has_shown(&row_of(kind), field_in(page, Field::Rax), bitmap) {
+                Ok(())
+            } else {
+                Err(BadPage::Missing)
+            }
+        }
+    }
+}
+
+/// The kind of event that an event's page asks for; the error is the first rule that it breaks.
+#[inline(always)]
+fn asked(vcpu: u16, page: &Words) -> Result<Kind, BadPage>
+    ensures kept { let word = word_in page.now in
+        IfOk result (λ kind. rules.page_call vcpu word ≡ call.Asked (page_reading.event_in word kind)) }
+    ensures broken { IfErr result (λ bad. first_broken_rule (page_rules vcpu (word_in page.now)) ≡ Some bad) }
+    ensures lawful { IfOk result (λ kind. IsKind kind) }
 {
     let (version, usage) = protocol_of(page.word(Word::LAST));
     if version != 1 {
@@ -133,40 +235,39 @@ fn asked(page: &Words) -> Result<Access, BadPage>
     if !is_event(&code) {
         return Err(BadPage::Unknown);
     }
-    let Some(kind) = kind_by(&code, field_in(page, Field::ExitInfo1)) else {
+    let info = field_in(page, Field::ExitInfo1);
+    let Some(kind) = kind_by(&code, info, field_in(page, Field::ExitInfo2)) else {
         return Err(BadPage::Invalid);
     };
-    let registers = Registers {
-        a: field_in(page, Field::Rax),
-        c: field_in(page, Field::Rcx),
-        d: field_in(page, Field::Rdx),
-    };
-    if !has_shown(&row_of(&kind), registers.a, &bitmap) {
-        return Err(BadPage::Missing);
-    }
-    Ok(access_of(&kind, &registers))
+    fits(vcpu, page, &bitmap, &kind)?;
+    Ok(kind)
 }
 
-/// The call of a page that its vCPU's MSR word names.
-fn page_call(page: &Words) -> Call
-    ensures value { result ≡ rules.page_call (word_in page.now) }
-    ensures lawful { IsLawfulCall result }
+/// What the page that a vCPU's MSR word names asks for.
+#[inline(always)]
+fn page_request(vcpu: u16, page: &Words) -> Request
+    ensures call { let word = word_in page.now in call_on word result ≡ rules.page_call vcpu word }
+    ensures lawful { IsLawfulRequest result }
 {
-    match asked(page) {
-        Ok(access) => Call::Asked(Event::One(access)),
-        Err(bad) => Call::Malformed(bad),
+    match asked(vcpu, page) {
+        Ok(kind) => Request::Asked(kind),
+        Err(bad) => Request::Malformed(bad),
     }
 }
 
 /// What a vCPU asks for by its MSR word and its page.
-pub fn read_call(vcpu: u16, page: &Words) -> Call
-    ensures call { result ≡ call_of vcpu page.now }
-    ensures lawful { IsLawfulCall result }
+#[inline(always)]
+pub fn read_request(vcpu: u16, page: &Words) -> Request
+    ensures call { call_on (word_in page.now) result ≡ call_of vcpu page.now }
+    ensures lawful { IsLawfulRequest result }
 {
-    match read(page.msr_word()) {
-        Ok(MsrWord::SevInfoRequest) => Call::SevInfo,
-        Ok(MsrWord::CpuidRequest { function, register }) => Call::Cpuid { function, register },
-        Ok(MsrWord::GhcbAddress(address)) if address == ghcb_of(vcpu) => page_call(page),
-        _ => Call::Nothing,
+    let word = page.msr_word();
+    if word == ghcb_of(vcpu) {
+        return page_request(vcpu, page);
+    }
+    match read(word) {
+        Ok(MsrWord::SevInfoRequest) => Request::SevInfo,
+        Ok(MsrWord::CpuidRequest { function, register }) => Request::Cpuid { function, register },
+        _ => Request::Nothing,
     }
 }

@@ -1,16 +1,18 @@
 // What is written on a page.
-ghost use Rattle.std.specs.Prelude.{◌≡◌, ◌<◌, ◌+◌, true, map};
+ghost use Rattle.std.specs.Prelude.{◌≡◌, ◌<◌, ◌≤◌, ◌+◌, true, length, map};
+ghost use Rattle.event_table.specs.Rows.{event_row, kind_of as kind_of_access};
 ghost use Rattle.page_words.specs.Told.{kept_after_all, store};
 ghost use Rattle.ghcb_layout.specs.Bitmap.{bit_if as bit_of_field, bitmap_of as bits_of_words, word_if};
 ghost use Rattle.host_events.specs.Served as replies;
 ghost use Rattle.host_events.specs.Served.{IsLawfulAnswer, bitmap_words, stores_of};
 
 use device_bus::{Answer, cpuid_register};
-use event_table::{Event, Results, Values, kind_of, row_of};
+use event_table::{Access, Results, Values, kind_of, row_of};
 use exit_info::Inject;
 use ghcb_layout::{Bitmap, Field, bit_if, word_of};
 use msr_protocol::{MsrWord, write};
 use page_words::{Page, Word, Words};
+use string_io::store_buffer;
 
 /// The exception that answers a page that breaks a rule: #GP with the error code 0.
 const REFUSAL: Inject = Inject {
@@ -97,16 +99,27 @@ pub fn store_refusal(page: &mut Words)
     store_raise(page, REFUSAL.write());
 }
 
-/// Stores the reply to an event: the results, or the exception that the guest is to raise.
-pub fn store_reply(event: &Event, answer: &Answer, page: &mut Words)
+/// Stores the reply to an access: the results, or the exception that the guest is to raise.
+pub fn store_reply(access: &Access, answer: &Answer, page: &mut Words)
     requires lawful { IsLawfulAnswer answer.now }
-    ensures stored { page.new ≡ kept_after_all page.old (replies.reply event.now answer.now) }
+    ensures stored { let results = (event_row (kind_of_access access.now)).results in
+        page.new ≡ kept_after_all page.old (replies.reply_by results answer.now) }
 {
-    let Event::One(access) = event;
     match *answer {
         Answer::Done(values) => store_done(page, &row_of(&kind_of(access)).results, &values),
         Answer::Raise { vector, code } => store_raise(page, Inject { vector, code }.write()),
     }
+}
+
+/// Stores the reply to a block: status 0, and the bytes that come back.
+pub fn store_block_reply(bytes: &[u8], page: &mut Words)
+    requires few { length bytes.now ≤ 2032 }
+    ensures stored { page.new ≡ kept_after_all page.old (replies.block_reply bytes.now) }
+{
+    page.store(word_of(Field::ExitInfo1), 0);
+    page.store(word_of(Field::ExitInfo2), 0);
+    store_buffer(bytes, page);
+    store_bitmap(page, &Bitmap::from_words(0, infos()));
 }
 
 /// The MSR word that answers `SevInfoRequest`.

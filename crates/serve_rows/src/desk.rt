@@ -5,7 +5,7 @@ ghost use Rattle.image_file.specs.Format.{most_vcpus};
 use crate::served::Served;
 use both_ends::exchange;
 use event_table::{Access, Event, Outcome, Values};
-use host_events::{Call, Host, Hypervisor, read_call};
+use host_events::{Host, Hypervisor, Request, event_in, read_request};
 use image_file::MOST_VCPUS;
 use page_words::{Page, Words};
 use show_text::{page_from_hex, word_from_hex};
@@ -104,8 +104,12 @@ impl Desk {
         host.start(self.vcpus, self.input.clone()?)?;
         let before = self.page.clone()?;
         host.serve(vcpu, &mut self.page)?;
-        let entry = match (host.turn_at(0), read_call(vcpu, &before)) {
-            (Some(turn), Call::Asked(event)) => Some((turn.vcpu, event)),
+        let event = match read_request(vcpu, &before) {
+            Request::Asked(kind) => Some(event_in(&before, &kind)),
+            _ => None,
+        };
+        let entry = match (host.turn_at(0), &event) {
+            (Some(turn), Some(event)) => Some((turn.vcpu, event)),
             _ => None,
         };
         let accesses = accesses(vcpu, &mut host)?;

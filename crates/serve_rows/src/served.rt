@@ -1,5 +1,5 @@
 // A served page as lines of text.
-use event_table::{Access, Event};
+use event_table::{Access, Block, Event};
 use page_words::{Word, Words};
 use std::fmt;
 
@@ -9,7 +9,7 @@ use std::fmt;
 pub struct Served<'a> {
     pub before: &'a Words,
     pub left: &'a Words,
-    pub entry: Option<(u16, Event)>,
+    pub entry: Option<(u16, &'a Event)>,
     pub accesses: u64,
     pub console: &'a [u8],
 }
@@ -40,6 +40,31 @@ impl fmt::Display for Shown {
     }
 }
 
+/// A block: its port in hexadecimal digits, and two of these for each byte of an output.
+#[derive(Clone, Copy)]
+struct ShownBlock<'a>(&'a Block);
+
+impl fmt::Display for ShownBlock<'_> {
+    fn fmt<W: fmt::Write>(&self, f: &mut fmt::Formatter<W>) -> fmt::Result {
+        let block = self.0;
+        write!(
+            f,
+            "Block {{ port: {:x}, size: {}, input: {}, rep: {}, count: {}, bytes: ",
+            block.port, block.size, block.input, block.rep, block.count
+        )?;
+        write_bytes(f, block.bytes.as_slice())?;
+        f.write_str(" }")
+    }
+}
+
+/// Writes two hexadecimal digits for each byte.
+fn write_bytes<W: fmt::Write>(f: &mut fmt::Formatter<W>, bytes: &[u8]) -> fmt::Result {
+    for byte in bytes {
+        write!(f, "{byte:02x}")?;
+    }
+    Ok(())
+}
+
 impl fmt::Display for Served<'_> {
     fn fmt<W: fmt::Write>(&self, f: &mut fmt::Formatter<W>) -> fmt::Result {
         for number in 0..512 {
@@ -53,15 +78,14 @@ impl fmt::Display for Served<'_> {
             writeln!(f, "msr {:016x}", self.left.msr_word())?;
         }
         match self.entry {
-            Some((vcpu, Event::One(access))) => writeln!(f, "entry {vcpu} {}", Shown(access))?,
+            Some((vcpu, Event::One(access))) => writeln!(f, "entry {vcpu} {}", Shown(*access))?,
+            Some((vcpu, Event::Many(block))) => writeln!(f, "entry {vcpu} {}", ShownBlock(block))?,
             None => writeln!(f, "no entry")?,
         }
         writeln!(f, "t {}", self.accesses)?;
         if !self.console.is_empty() {
             f.write_str("console ")?;
-            for byte in self.console {
-                write!(f, "{byte:02x}")?;
-            }
+            write_bytes(f, self.console)?;
             writeln!(f)?;
         }
         writeln!(f, ".")

@@ -2,16 +2,19 @@
 ghost use Rattle.std.specs.Prelude.{◌≡◌};
 ghost use Rattle.host_events.specs.Calls.{bad_page_code};
 
-use event_table::Event;
+use event_table::Kind;
 
 /// Why a page asks for no event: the first rule that it breaks.
 #[derive(Clone, Copy, Debug, PartialEq, Eq)]
 pub enum BadPage {
     /// The usage isn't 0.
     Usage,
+    /// SW_SCRATCH isn't the address of the shared buffer in the vCPU's page.
+    Buffer,
     /// The valid bitmap lacks the bit of a word that the event needs.
     Missing,
-    /// The protocol version isn't 1, or SW_EXITINFO1 says nothing of the event.
+    /// The protocol version isn't 1, SW_EXITINFO1 says nothing of the event, or SW_EXITINFO2 is no count of
+    /// string I/O.
     Invalid,
     /// SW_EXITCODE is no event's.
     Unknown,
@@ -24,6 +27,7 @@ impl BadPage {
     {
         match self {
             BadPage::Usage => 2,
+            BadPage::Buffer => 3,
             BadPage::Missing => 4,
             BadPage::Invalid => 5,
             BadPage::Unknown => 6,
@@ -31,9 +35,10 @@ impl BadPage {
     }
 }
 
-/// What a vCPU asks for by its MSR word and its page.
+/// What a vCPU asks for by its MSR word and its page. Of an event it has the kind alone: the event's data
+/// stand on the page.
 #[derive(Clone, Copy, Debug, PartialEq, Eq)]
-pub enum Call {
+pub enum Request {
     /// Nothing that is answered.
     Nothing,
     /// The protocol versions, and the page table bit that marks encrypted memory.
@@ -42,6 +47,6 @@ pub enum Call {
     Cpuid { function: u32, register: u8 },
     /// Nothing that can be answered, since its page breaks a rule.
     Malformed(BadPage),
-    /// An event.
-    Asked(Event),
+    /// An event of this kind.
+    Asked(Kind),
 }
