@@ -1,5 +1,5 @@
 -- What the program is to say, from what its parts found.
-use Rattle.std.proofs.Common.{◌≡◌, ℕ, ◌⊎◌, true, inl, inr, List, Option, Some, None, Result, Ok, Err, refl, sym, ap, ◌∙◌, subst}
+use Rattle.std.proofs.Common.{◌≡◌, ℕ, ◌⊎◌, inl, inr, List, Option, Some, None, Result, Ok, Err, refl, sym, ap, ◌∙◌}
 use Rattle.std.specs.Prelude.{IfSome, option_map}
 use Rattle.std.proofs.lemmas.Option.{same_Some}
 use Rattle.image_file.specs.Image.{Contents}
@@ -10,13 +10,8 @@ use Rattle.ghcb_cli.specs.declared.text.Refused.{Refused}
 use Rattle.ghcb_cli.specs.Command.{command_of, reading_by, reading_of, command_word}
 use Rattle.ghcb_cli.specs.Ending.{IsKnown, IsText}
 use Rattle.ghcb_cli.specs.Files.{Folder, Holds, AreRefused, IsAbsent, IsFirstRefusal}
-use Rattle.ghcb_cli.specs.Said.{Said, Making, running, answering, said_with, said_of_files, said_by, said_over, said, says_usage, says_refused, says_output, IsToEnd}
+use Rattle.ghcb_cli.specs.Said.{Said, Making, IsMadeBy, running, answering, said_with, said_of_files, said_by, said_over, said, says_usage, says_refused, says_output, IsToEnd}
 use Rattle.ghcb_cli.specs.Text.{usage}
-
--- a command makes its text of two files in this way, and is no reading
-pub record IsMadeBy (c : Command) (m : Making) : Type 0 where
-  pub made : (image second : Option (List ℕ)) (digits : List ℕ) → said_by image second digits (Some c) ≡ said_of_files m image second
-  pub unread : (digits : List ℕ) → reading_by digits (Some c) ≡ None
 
 pub made_by_run : (steps : ℕ) → IsMadeBy (Run steps) (running steps)
 made_by_run steps = record { made = λ image second digits. refl; unread = λ digits. refl }

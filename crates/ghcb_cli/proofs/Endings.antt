@@ -3,7 +3,6 @@ use Rattle.std.proofs.Common.{◌≡◌, ℕ, ◌⊎◌, true, inl, inr, List, l
 use Rattle.std.specs.Prelude.{IfSome}
 use Rattle.std.proofs.lemmas.Option.{same_Some}
 use Rattle.image_file.specs.Image.{Contents}
-use Rattle.event_table.specs.declared.turn.Finished.{Finished}
 use Rattle.host_events.specs.Hosting.{Hosting}
 use Rattle.run_io.specs.Outside.{SinkTold, FailsToPut, HasSpace, wrote}
 use Rattle.ghcb_cli.specs.declared.command.Command.{Command}
@@ -12,14 +11,13 @@ use Rattle.ghcb_cli.specs.declared.commands.Ending.{Ending}
 use Rattle.ghcb_cli.specs.declared.commands.Ending.TheVariants as ending
 use Rattle.ghcb_cli.specs.declared.files.Unready.{Unready}
 use Rattle.ghcb_cli.specs.declared.files.Unready.TheVariants as unready
-use Rattle.ghcb_cli.specs.declared.text.Refused.{Refused}
 use Rattle.ghcb_cli.specs.Command.{command_of, reading_of, command_word}
-use Rattle.ghcb_cli.specs.Ending.{Told, Finishes, Answers, Uses, Refuses, Shows, FailsRead, FailsWrite, WantsMemory, EndsAs, PutsAs, WantsAs, GivesUpAs, RunEndsAs, ScriptEndsAs, IsRun, IsHandedBack, IsKnown, IsText}
+use Rattle.ghcb_cli.specs.Ending.{Told, FailsRead, FailsWrite, WantsMemory, EndsAs, PutsAs, WantsAs, GivesUpAs, RunEndsAs, ScriptEndsAs, IsHandedBack, IsKnown, IsText}
 use Rattle.ghcb_cli.specs.Files.{Folder, Holds, AreRefused, AreUnread, single_in, input_in, image_in, script_in}
-use Rattle.ghcb_cli.specs.Said.{Said, Making, running, answering, answered_text, output_of, said, says_refused, says_output, IsToEnd}
+use Rattle.ghcb_cli.specs.Said.{Said, Making, IsMadeBy, running, answering, answered_text, output_of, said, says_refused, says_output, IsToEnd}
 use Rattle.ghcb_cli.specs.Text.{usage, line_of}
 use Rattle.ghcb_cli.specs.Unready.{Explains}
-use Rattle.ghcb_cli.proofs.Answering.{IsMadeBy, made_by_run, made_by_script, first_refused, none_said, said_output, text_is, to_end, usage_is, usage_text, shown_is, shown_text}
+use Rattle.ghcb_cli.proofs.Answering.{made_by_run, made_by_script, first_refused, none_said, said_output, text_is, to_end, usage_is, usage_text, shown_is, shown_text}
 use Rattle.ghcb_cli.proofs.Outputs.{output_shown, runs_written}
 
 -- a text was put, or a write of it failed

@@ -64,6 +64,11 @@ said_by image second digits (Some (ShowMsr word)) = option_map (λ text. says_ou
 said_by image second digits (Some (ShowInfo word)) = option_map (λ text. says_output text) (reading_by digits (Some (ShowInfo word)))
 said_by image second digits None = Some says_usage
 
+-- a command makes its text of two files in this way, and is no reading
+pub record IsMadeBy (c : Command) (m : Making) : Type 0 where
+  pub made : (image second : Option (List ℕ)) (digits : List ℕ) → said_by image second digits (Some c) ≡ said_of_files m image second
+  pub unread : (digits : List ℕ) → reading_by digits (Some c) ≡ None
+
 -- What the program is to say: of a run the words first, then the image's limit and form, then the limit and form of the input or
 -- the script, then the text of the run; of a reading its text. There is none where a file that is read is absent.
 abbrev pub said : Folder → List (List ℕ) → Option Said

@@ -1,6 +1,7 @@
 -- A command with what its words hold.
-use Rattle.std.specs.Prelude.{◌≡◌, ℕ, List, Some}
+use Rattle.std.specs.Prelude.{◌≡◌, ◌≤◌, ℕ, List, Some}
 use Rattle.show_text.specs.Digits.{page_of_digits}
+use Rattle.ghcb_cli.specs.Command.{most_steps, most_hostile_steps}
 use Rattle.ghcb_cli.specs.declared.command.Command.{Command}
 use Rattle.ghcb_cli.specs.declared.command.Command.TheVariants as command
 use Rattle.ghcb_cli.specs.declared.command.Task.{Task}
@@ -21,3 +22,9 @@ HasWords first second (task.Hostile image script steps) = (image.now ≡ first) 
 HasWords first second (task.ShowPage page) = page_of_digits second ≡ Some page
 HasWords first second (task.ShowMsr word) = Unit {0}
 HasWords first second (task.ShowInfo word) = Unit {0}
+
+-- a run has no more steps than the grammar allows
+abbrev pub IsWithin : Task → Type 0
+IsWithin (task.Run image input steps) = steps ≤ most_steps
+IsWithin (task.Hostile image script steps) = steps ≤ most_hostile_steps
+IsWithin _ = Unit {0}

@@ -1,10 +1,10 @@
 // The words of the program.
-ghost use Rattle.std.specs.Prelude.{◌≡◌, true, map, nat_le, if◌then◌else◌, Some, None, IfSome, option_map};
+ghost use Rattle.std.specs.Prelude.{◌≡◌, ◌≤◌, true, map, nat_le, if◌then◌else◌, Some, None, IfSome, option_map};
 ghost use Rattle.std.specs.Char.{is_ascii_digit};
 ghost use Rattle.std.specs.List.{list_all};
 ghost use Rattle.std.specs.String.{string_bytes};
 ghost use Rattle.ghcb_cli.specs.Command.{value_after, decimal_of, show_of, command_of, command_word};
-ghost use Rattle.ghcb_cli.specs.Task.{command_in, HasWords};
+ghost use Rattle.ghcb_cli.specs.Task.{command_in, HasWords, IsWithin};
 
 use page_words::Words;
 use show_text::{page_from_hex, word_from_hex};
@@ -73,6 +73,7 @@ fn has_leading_zero(text: &[u8]) -> bool
 fn value_up_to(text: &[u8], most: u64) -> Option<u64>
     requires digits { list_all is_ascii_digit text.now ≡ true }
     ensures value { result ≡ (if nat_le (value_after 0 text.now) most then Some (value_after 0 text.now) else None) }
+    ensures within { IfSome result (λ n. n ≤ most) }
 {
     let most = u128::from(most);
     let mut value: u128 = 0;
@@ -92,6 +93,7 @@ fn value_up_to(text: &[u8], most: u64) -> Option<u64>
 /// The number that a text writes, where it has no leading zero and is from `least` to `most`.
 fn decimal(text: &[u8], least: u64, most: u64) -> Option<u64>
     ensures number { result ≡ decimal_of least most text.now }
+    ensures within { IfSome result (λ n. n ≤ most) }
 {
     if !are_digits(text) || has_leading_zero(text) {
         return None;
@@ -106,6 +108,7 @@ fn decimal(text: &[u8], least: u64, most: u64) -> Option<u64>
 fn show<'a>(kind: &str, digits: &str) -> Option<Task<'a>>
     ensures command { option_map command_in result ≡ show_of kind.now digits.now }
     ensures words { IfSome result (λ task. HasWords kind.now digits.now task) }
+    ensures within { IfSome result IsWithin }
 {
     match kind {
         "page" => match page_from_hex(digits.as_bytes()) {
@@ -128,6 +131,7 @@ fn show<'a>(kind: &str, digits: &str) -> Option<Task<'a>>
 fn run_by<'a>(name: &str, image: &'a str, second: &'a str, steps: &[u8]) -> Option<Task<'a>>
     ensures command { option_map command_in result ≡ Rattle.ghcb_cli.specs.Command.run_by name.now steps.now }
     ensures words { IfSome result (λ task. HasWords image.now second.now task) }
+    ensures within { IfSome result IsWithin }
 {
     match name {
         "run" => match decimal(steps, 1, MOST_STEPS) {
@@ -155,6 +159,7 @@ pub fn task_in(words: &[String]) -> Option<Task<'_>>
     ensures command { option_map command_in result ≡ command_of (map string_bytes words.now) }
     ensures words { IfSome result (λ task. HasWords
         (command_word (map string_bytes words.now) 1) (command_word (map string_bytes words.now) 2) task) }
+    ensures within { IfSome result IsWithin }
 {
     match words {
         [name, image, second, steps] if !image.is_empty() && !second.is_empty() => run_by(

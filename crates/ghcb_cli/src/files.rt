@@ -1,7 +1,7 @@
 // The files that a command names, or why they can't be run.
 ghost use Rattle.std.specs.Prelude.{◌≡◌, ◌<◌, ◌^◌, IfOk, IfErr, Ok, Err};
 ghost use Rattle.run_io.specs.Outside.{AreRead, FailsToRead};
-ghost use Rattle.ghcb_cli.specs.Files.{Holds, AreRefused, AreUnread, limited, image_in, single_in, input_in, script_in, run_parts, script_parts};
+ghost use Rattle.ghcb_cli.specs.Files.{Holds, limited, image_in, single_in, input_in, script_in};
 ghost use Rattle.ghcb_cli.specs.Unready.{unready_of, Explains};
 
 use crate::text::Refused;
@@ -64,7 +64,7 @@ fn read_limited<F: Files>(
 }
 
 /// The image in a file, or why there is none.
-fn image_of<F: Files>(alloc: Global, files: &mut F, name: &str) -> Result<Image, Unready>
+pub fn image_of<F: Files>(alloc: Global, files: &mut F, name: &str) -> Result<Image, Unready>
     ensures image { IfOk result (λ image. Holds (F.told files.old).folder image_in name.now (Ok image)) }
     ensures refused { IfErr result (λ e. Explains e
         (λ r. Holds (F.told files.old).folder image_in name.now (Err r))
@@ -80,7 +80,7 @@ fn image_of<F: Files>(alloc: Global, files: &mut F, name: &str) -> Result<Image,
 }
 
 /// The image of one vCPU in a file, or why there is none.
-fn one_vcpu_image<F: Files>(alloc: Global, files: &mut F, name: &str) -> Result<Image, Unready>
+pub fn one_vcpu_image<F: Files>(alloc: Global, files: &mut F, name: &str) -> Result<Image, Unready>
     ensures image { IfOk result (λ image. Holds (F.told files.old).folder single_in name.now (Ok image)) }
     ensures refused { IfErr result (λ e. Explains e
         (λ r. Holds (F.told files.old).folder single_in name.now (Err r))
@@ -94,8 +94,19 @@ fn one_vcpu_image<F: Files>(alloc: Global, files: &mut F, name: &str) -> Result<
     Ok(image)
 }
 
+/// The bytes of the input in a file, or why there are none.
+pub fn input_of<F: Files>(alloc: Global, files: &mut F, name: &str) -> Result<Vec<u8>, Unready>
+    ensures input { IfOk result (λ input. Holds (F.told files.old).folder input_in name.now (Ok input.items)) }
+    ensures refused { IfErr result (λ e. Explains e
+        (λ r. Holds (F.told files.old).folder input_in name.now (Err r))
+        (FailsToRead name.now (F.told files.old) (F.told files.new))) }
+    ensures read { AreRead (F.told files.old) (F.told files.new) }
+{
+    read_limited(alloc, files, name, MOST_INPUT, Refused::InputLimit)
+}
+
 /// The words of the script in a file, or why there are none.
-fn script_of<F: Files>(alloc: Global, files: &mut F, name: &str) -> Result<Vec<u64>, Unready>
+pub fn script_of<F: Files>(alloc: Global, files: &mut F, name: &str) -> Result<Vec<u64>, Unready>
     ensures script { IfOk result (λ script. Holds (F.told files.old).folder script_in name.now (Ok script.items)) }
     ensures refused { IfErr result (λ e. Explains e
         (λ r. Holds (F.told files.old).folder script_in name.now (Err r))
@@ -108,54 +119,4 @@ fn script_of<F: Files>(alloc: Global, files: &mut F, name: &str) -> Result<Vec<u
         Err(ScriptError::Line(line)) => Err(Unready::Refused(Refused::ScriptLine(line))),
         Err(ScriptError::OutOfMemory) => Err(Unready::OutOfMemory),
     }
-}
-
-/// What a run over the host is made of.
-#[derive(Drop)]
-pub struct RunFiles {
-    pub image: Image,
-    pub input: Vec<u8>,
-}
-
-/// The image and the input in the files of these names, or why they can't be run.
-pub fn run_files_of<F: Files>(
-    alloc: Global,
-    files: &mut F,
-    image: &str,
-    input: &str,
-) -> Result<RunFiles, Unready>
-    ensures image { IfOk result (λ r. Holds (F.told files.old).folder single_in image.now (Ok r.image)) }
-    ensures input { IfOk result (λ r. Holds (F.told files.old).folder input_in input.now (Ok r.input.items)) }
-    ensures refused { IfErr result (λ e. Explains e
-        (λ r. AreRefused run_parts (F.told files.old).folder image.now input.now r)
-        (AreUnread run_parts image.now input.now (F.told files.old) (F.told files.new))) }
-{
-    let image = one_vcpu_image(alloc, files, image)?;
-    let input = read_limited(alloc, files, input, MOST_INPUT, Refused::InputLimit)?;
-    Ok(RunFiles { image, input })
-}
-
-/// What a run on the words of a script is made of.
-#[derive(Drop)]
-pub struct ScriptFiles {
-    pub image: Image,
-    pub script: Vec<u64>,
-}
-
-/// The image and the script in the files of these names, or why there is no run on them.
-pub fn script_files_of<F: Files>(
-    alloc: Global,
-    files: &mut F,
-    image: &str,
-    script: &str,
-) -> Result<ScriptFiles, Unready>
-    ensures image { IfOk result (λ s. Holds (F.told files.old).folder image_in image.now (Ok s.image)) }
-    ensures script { IfOk result (λ s. Holds (F.told files.old).folder script_in script.now (Ok s.script.items)) }
-    ensures refused { IfErr result (λ e. Explains e
-        (λ r. AreRefused script_parts (F.told files.old).folder image.now script.now r)
-        (AreUnread script_parts image.now script.now (F.told files.old) (F.told files.new))) }
-{
-    let image = image_of(alloc, files, image)?;
-    let script = script_of(alloc, files, script)?;
-    Ok(ScriptFiles { image, script })
 }

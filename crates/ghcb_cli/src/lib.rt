@@ -6,7 +6,10 @@
 mod command;
 mod commands;
 mod files;
+mod host_run;
 mod script_run;
+#[cfg(test)]
+mod string_tests;
 #[cfg(test)]
 mod tests;
 mod text;

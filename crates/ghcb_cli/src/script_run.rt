@@ -1,22 +1,27 @@
-// A run on the words of a script.
-ghost use Rattle.std.specs.Prelude.{◌≡◌, ◌≤◌, [], ◌∷◌, IfOk};
+// The command `hostile`: an image on the words of a script.
+ghost use Rattle.std.specs.Prelude.{◌≡◌, ◌≤◌, ◌-◌, ◌^◌, [], ◌∷◌, IfOk, refl};
 ghost use Rattle.page_words.specs.Dialogue.{values_of};
-ghost use Rattle.ghcb_cli.specs.Said.{answered_text};
+ghost use Rattle.ghcb_cli.specs.declared.command.Command.TheVariants.{Hostile};
+ghost use Rattle.ghcb_cli.specs.Said.{answered_text, answering};
 ghost use Rattle.ghcb_cli.specs.ScriptCommand.{IsAnswered};
 
+use crate::commands::{Ending, OnFiles, put};
+use crate::files::{Unready, image_of, script_of};
 use event_table::{End, Finished};
+use host_events::Host;
 use hostile_host::hostile_run;
 use image_file::Image;
 use page_words::{Item, Recorded, Script};
+use run_io::{Files, Sink};
 use std::alloc::{AllocError as OutOfMemory, Global};
 use trace_text::trace_text;
 
 /// What a run leaves: its text, the words that came, and the steps and the end of the vCPU.
 #[derive(Drop)]
-pub struct Answered {
-    pub text: Vec<u8>,
-    pub finished: Finished,
-    pub heard: Vec<u64>,
+struct Answered {
+    text: Vec<u8>,
+    finished: Finished,
+    heard: Vec<u64>,
 }
 
 /// The words that came of loads and of readings of the MSR.
@@ -48,12 +53,13 @@ fn finished_at(alloc: Global, steps: u64, end: End) -> Result<Finished, OutOfMem
 
 /// Runs vCPU 0 of an image to its end, within so many steps, where each load and each reading of the MSR
 /// gives the next word of the script, and 0 after its end.
-pub fn run_script(
+fn run_script(
     alloc: Global,
     image: &Image,
     script: Vec<u64>,
     steps: u64,
 ) -> Result<Answered, OutOfMemory>
+    requires budget { steps ≤ 2 ^ 64 - 2032 }
     ensures text { IfOk result (λ a. a.text.items ≡ answered_text image.now steps script.items) }
     ensures answered { IfOk result (λ a. IsAnswered image.now steps script.items a.finished a.heard.items) }
 {
@@ -67,4 +73,56 @@ pub fn run_script(
         finished: finished_at(alloc, vcpu.steps(), end)?,
         heard: words_of(alloc, page.items())?,
     })
+}
+
+/// Runs vCPU 0 of an image on the words of a script, so many steps, and writes its trace and its end. No host
+/// is called.
+#[derive(Drop)]
+pub struct OnScript {
+    pub steps: u64,
+    ghost budget: { steps ≤ 2 ^ 64 - 2032 },
+}
+
+impl OnFiles for OnScript {
+    type Second = Vec<u64>;
+
+    ghost command = { λ c. Hostile c.steps };
+
+    ghost making = { λ c. answering c.steps };
+
+    ghost items = { λ script. script.items };
+
+    fn image<F: Files>(&self, alloc: Global, files: &mut F, name: &str) -> Result<Image, Unready> {
+        image_of(alloc, files, name)
+    }
+
+    fn second<F: Files>(
+        &self,
+        alloc: Global,
+        files: &mut F,
+        name: &str,
+    ) -> Result<Vec<u64>, Unready> {
+        script_of(alloc, files, name)
+    }
+
+    fn run<S: Sink, H: Host>(
+        &self,
+        alloc: Global,
+        image: &Image,
+        script: Vec<u64>,
+        out: &mut S,
+        _host: &mut H,
+    ) -> Ending {
+        let Ok(answered) = run_script(alloc, image, script, self.steps) else {
+            return Ending::OutOfMemory;
+        };
+        let Answered {
+            text,
+            finished,
+            heard,
+        } = answered;
+        put(out, &text, Ending::Answered { finished, heard })
+    }
+
+    ghost made = { λ c. record { made = λ image second digits. refl; unread = λ digits. refl } };
 }

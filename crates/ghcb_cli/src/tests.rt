@@ -7,7 +7,7 @@ use event_table::{End, Reason, Turn};
 use host_events::{Host, Hypervisor};
 use image_file::ImageFault;
 use image_samples::sample_file;
-use page_words::{Word, Words};
+use page_words::{Page, Word, Words};
 use run_io::{MemFiles, MemSink};
 use std::alloc::{AllocError as OutOfMemory, Global};
 use std::test::Fail;
@@ -25,7 +25,7 @@ fn folder(alloc: Global, code: &[u8]) -> Result<MemFiles, Fail> {
     Ok(files)
 }
 
-fn words_of(alloc: Global, words: &[&str]) -> Result<Vec<String>, Fail> {
+pub fn words_of(alloc: Global, words: &[&str]) -> Result<Vec<String>, Fail> {
     let mut all = Vec::new(alloc);
     for word in words {
         all.push(String::from_str(alloc, *word)?)?;
@@ -230,8 +230,8 @@ const ENDINGS: [Row; 5] = [
     (&[0xB8, 1], b"", 0, End::BadAddress(2)),
     // JMP to itself
     (&[0xEB, 0xFE], b"", 100, End::Spent),
-    // NOP; INSB, which isn't shown to a host yet
-    (&[0x90, 0x6C], b"", 1, End::Undecoded),
+    // NOP; INSB to address 0, where its own code is
+    (&[0x90, 0x6C], b"", 1, End::BadAddress(0)),
 ];
 
 #[test]
@@ -361,16 +361,32 @@ fn guests_are_answered_by_the_devices(rt: HostRuntime) -> Result<(), Fail> {
     Ok(())
 }
 
-/// A hypervisor that keeps each page as it was handed in, and as it was left.
+/// Words of a page by their numbers.
+pub type WordsAt<'a> = &'a [(u16, u64)];
+
+/// A hypervisor that keeps each page as it was handed in, and as it was left. Behind that it changes words of
+/// each page that it leaves, so it tells nothing.
 #[derive(Drop)]
-struct Watching {
+pub struct Watching<'a> {
     host: Hypervisor,
-    shown: Vec<Words>,
-    left: Vec<Words>,
+    changes: WordsAt<'a>,
+    pub shown: Vec<Words>,
+    pub left: Vec<Words>,
 }
 
-impl Host for Watching {
-    ghost told = { λ w. telling w.host };
+impl<'a> Watching<'a> {
+    pub fn new(alloc: Global, changes: WordsAt<'a>) -> Watching<'a> {
+        Watching {
+            host: Hypervisor::new(alloc),
+            changes,
+            shown: Vec::new(alloc),
+            left: Vec::new(alloc),
+        }
+    }
+}
+
+impl<'a> Host for Watching<'a> {
+    ghost told = { λ w. record { vcpus = (telling w.host).vcpus; devices = None; history = None; pages = None } };
 
     fn start(&mut self, count: u16, input: Vec<u8>) -> Result<(), OutOfMemory> {
         self.host.start(count, input)
@@ -384,6 +400,11 @@ impl Host for Watching {
         let _ = self.shown.push(shown);
         if let Ok(left) = page.clone() {
             let _ = self.left.push(left);
+        }
+        for (number, value) in self.changes {
+            if let Some(word) = Word::new(*number) {
+                page.store(word, *value);
+            }
         }
         Ok(())
     }
@@ -401,10 +422,7 @@ impl Host for Watching {
     }
 }
 
-/// Words of a page by their numbers.
-type WordsAt<'a> = &'a [(u16, u64)];
-
-fn has_words(page: Option<&Words>, words: WordsAt) -> bool {
+pub fn has_words(page: Option<&Words>, words: WordsAt) -> bool {
     let Some(page) = page else {
         return words.is_empty();
     };
@@ -486,11 +504,7 @@ fn the_page_between_guest_and_host_has_these_words(rt: HostRuntime) -> Result<()
         let words = words_of(alloc, &["run", "image", "input", "100"])?;
         let mut files = folder(alloc, code)?;
         let mut out = MemSink::new(alloc, 1)?;
-        let mut host = Watching {
-            host: Hypervisor::new(alloc),
-            shown: Vec::new(alloc),
-            left: Vec::new(alloc),
-        };
+        let mut host = Watching::new(alloc, &[]);
         let done = ghcb_main(&rt, alloc, &words, &mut files, &mut out, &mut host);
         assert_eq!(rt; done.steps.as_slice(), [steps].as_slice());
         assert_eq!(rt; done.ends.as_slice(), [End::Halted].as_slice());
@@ -650,65 +664,48 @@ fn the_words_that_a_script_gave_are_handed_back(rt: HostRuntime) -> Result<(), F
     Ok(())
 }
 
-/// What a command says of a folder with the guest that prints `H`, in which the file of this name has so
-/// many zeros for its bytes.
-fn said_of_zeros<R: Threads + Sync>(
-    rt: &R,
-    alloc: Global,
-    name: &str,
-    size: usize,
-    words: &[&str],
-) -> Result<(u8, Option<Refused>), Fail> {
-    let mut files = MemFiles::new(alloc);
-    let zeros = vec![in alloc; 0u8; size]?;
-    files.add(name, &zeros)?;
-    let image = sample_file(alloc, &HELLO, 0, 0)?;
-    files.add("image", &image)?;
-    let mut out = MemSink::new(alloc, 100)?;
-    says(rt, alloc, words, &mut files, &mut out)
-}
+/// A file's name and the number of its bytes, the words that have it read, and what comes of them.
+type Limit<'a> = (&'a str, usize, &'a [&'a str], (u8, Option<Refused>));
+
+const RUN: [&str; 4] = ["run", "image", "input", "9"];
+
+const HOSTILE: [&str; 4] = ["hostile", "image", "script", "9"];
+
+const LIMITS: [Limit; 6] = [
+    (
+        "image",
+        16_777_280,
+        &RUN,
+        (3, Some(Refused::Image(ImageFault::BadMagic))),
+    ),
+    ("image", 16_777_281, &RUN, (3, Some(Refused::ImageLimit))),
+    ("input", 16_777_216, &RUN, (0, None)),
+    ("input", 16_777_217, &RUN, (3, Some(Refused::InputLimit))),
+    (
+        "script",
+        16_777_216,
+        &HOSTILE,
+        (3, Some(Refused::ScriptLine(1))),
+    ),
+    (
+        "script",
+        16_777_217,
+        &HOSTILE,
+        (3, Some(Refused::ScriptLimit)),
+    ),
+];
 
 #[test]
-fn the_image_has_a_limit(rt: HostRuntime) -> Result<(), Fail> {
+fn each_file_has_a_limit(rt: HostRuntime) -> Result<(), Fail> {
     let alloc = rt.alloc();
-    for (size, refused) in [
-        (16_777_280, Refused::Image(ImageFault::BadMagic)),
-        (16_777_281, Refused::ImageLimit),
-    ] {
-        let words = ["run", "image", "input", "9"];
-        assert_eq!(rt;
-            said_of_zeros(&rt, alloc, "image", size, &words)?,
-            (3, Some(refused))
-        );
-    }
-    Ok(())
-}
-
-#[test]
-fn the_input_has_a_limit(rt: HostRuntime) -> Result<(), Fail> {
-    let alloc = rt.alloc();
-    for (size, told) in [
-        (16_777_216, (0, None)),
-        (16_777_217, (3, Some(Refused::InputLimit))),
-    ] {
-        let words = ["run", "image", "input", "9"];
-        assert_eq!(rt; said_of_zeros(&rt, alloc, "input", size, &words)?, told);
-    }
-    Ok(())
-}
-
-#[test]
-fn the_script_has_a_limit(rt: HostRuntime) -> Result<(), Fail> {
-    let alloc = rt.alloc();
-    for (size, refused) in [
-        (16_777_216, Refused::ScriptLine(1)),
-        (16_777_217, Refused::ScriptLimit),
-    ] {
-        let words = ["hostile", "image", "script", "9"];
-        assert_eq!(rt;
-            said_of_zeros(&rt, alloc, "script", size, &words)?,
-            (3, Some(refused))
-        );
+    for (name, size, words, told) in LIMITS {
+        let mut files = MemFiles::new(alloc);
+        let zeros = vec![in alloc; 0u8; size]?;
+        files.add(name, &zeros)?;
+        let image = sample_file(alloc, &HELLO, 0, 0)?;
+        files.add("image", &image)?;
+        let mut out = MemSink::new(alloc, 100)?;
+        assert_eq!(rt; says(&rt, alloc, words, &mut files, &mut out)?, told);
     }
     Ok(())
 }

@@ -13,7 +13,9 @@ ghost use Rattle.ghcb_cli.specs.declared.commands.Ending.TheVariants as ending;
 ghost use Rattle.ghcb_cli.specs.Text.{usage as usage_text};
 
 use crate::command::{Task, task_in};
-use crate::commands::{Ending, put, run_files, script_files};
+use crate::commands::{Ending, on_files, put};
+use crate::host_run::OverHost;
+use crate::script_run::OnScript;
 use crate::text::{Refused, usage};
 use event_table::{End, Finished, Turn};
 use host_events::Host;
@@ -46,14 +48,14 @@ fn ending_of<F: Files, S: Sink, H: Host>(
                 input,
                 steps,
             },
-        ) => run_files(alloc, image, input, steps, files, out, host),
+        ) => on_files(alloc, &OverHost { steps }, image, input, files, out, host),
         Some(
             Task::Hostile {
                 image,
                 script,
                 steps,
             },
-        ) => script_files(alloc, image, script, steps, files, out),
+        ) => on_files(alloc, &OnScript { steps }, image, script, files, out, host),
         Some(Task::ShowPage(page)) => put(out, page_text(&page).as_bytes(), Ending::Shown),
         Some(Task::ShowMsr(word)) => put(out, msr_text(word).as_bytes(), Ending::Shown),
         Some(Task::ShowInfo(word)) => put(out, info_text(word).as_bytes(), Ending::Shown),

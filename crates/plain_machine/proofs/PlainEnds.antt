@@ -1,23 +1,22 @@
 -- No vCPU of the plain machine ends by a termination.
 use Rattle.std.proofs.Common.{◌≡◌, ℕ, zero, suc, ◌+◌, Bool, true, false, List, [], ◌∷◌, Option, Some, None, refl, subst}
-use Rattle.std.specs.Prelude.{◌==◌, slice_get, slice_set, option_and_then, if◌then◌else◌}
+use Rattle.std.specs.Prelude.{◌==◌, slice_get, slice_set, option_and_then, option_map, if◌then◌else◌}
 use Rattle.std.proofs.lemmas.Option.{same_Some}
 use Rattle.image_file.specs.Image.{Contents}
 use Rattle.event_table.specs.declared.end.End.{End}
 use Rattle.event_table.specs.declared.end.End.TheVariants.{Terminated}
 use Rattle.event_table.specs.declared.event.Event.{Event}
-use Rattle.event_table.specs.declared.event.Event.TheVariants.{One}
 use Rattle.event_table.specs.declared.turn.Turn.{Turn}
 use Rattle.event_table.specs.Ending.{IsOver}
 use Rattle.event_table.specs.Lawful.{count_of}
 use Rattle.guest_interp.specs.Ending.{IsUnterminated}
 use Rattle.guest_interp.specs.Stepping.{Counted, Standstill, Waits, Ended, start_of}
 use Rattle.guest_interp.proofs.Ended.{own_ends}
-use Rattle.device_bus.specs.declared.answer.Answer.{Answer}
-use Rattle.device_bus.specs.declared.answer.Answer.TheVariants.{Done, Raise}
-use Rattle.device_bus.specs.Devices.{Devices, answer}
+use Rattle.event_table.specs.Plan.{Moved}
 use Rattle.plain_machine.specs.Ends.{AreUnterminated, RunsUnterminated}
-use Rattle.plain_machine.specs.Plain.{Machine, first_stops, machine_at_start, answer_applied, stop_after_event, single, single_where, item, along, all_ended, where_ended, ends_of}
+use Rattle.plain_machine.specs.Plain.{Machine, first_stops, machine_at_start, event_done, item_where, item, along, all_ended, where_ended, ends_of}
+use Rattle.plain_machine.specs.Single.{Accessed, singles}
+use Rattle.plain_machine.proofs.Over.{singles_over}
 
 abbrev AllUnterminated : List Standstill → Type 0
 AllUnterminated [] = Unit {0}
@@ -41,24 +40,28 @@ first_unterminated : (image : Contents) (budget i n : ℕ) → AllUnterminated (
 first_unterminated image budget i zero = tt
 first_unterminated image budget i (suc n) = (own_ends.stop budget (start_of image i), first_unterminated image budget (i + 1) n)
 
--- what the devices say is over with the instruction
-pub answered_over : (image : Contents) (a : Answer) (c : Counted) → IsOver (answer_applied image a c)
-answered_over image (Done values) c = own_ends.answer c.vcpu values
-answered_over image (Raise vector code) c = own_ends.exception image vector code c.vcpu
+-- an event whose accesses were done one after another
+mapped_unterminated : (budget i : ℕ) (event : Event) (c : Counted) (m : Machine) (o : Option Accessed) (next : Machine) → AllUnterminated m.stops → ((a : Accessed) → o ≡ Some a → IsOver a.stands) →
+    option_map (λ a. event_done budget i event c m a) o ≡ Some next → AllUnterminated next.stops
+mapped_unterminated budget i event c m None next all over is = absurd (cc)
+mapped_unterminated budget i event c m (Some a) next all over is =
+    subst (λ (y : Machine). AllUnterminated y.stops) (same_Some _ _ is)
+    (set_unterminated i m.stops _ all (own_ends.further budget (count_of event) c.steps a.stands (over a refl)))
 
-next_unterminated : (image : Contents) (budget i : ℕ) (event : Event) (c : Counted) (d : Devices) → IsUnterminated (stop_after_event image budget i event c d)
-next_unterminated image budget i (One access) c d =
-    own_ends.further budget c.steps (answer_applied image (answer d i access) c) (answered_over image (answer d i access) c)
+counted_unterminated : (t : Bool) (budget i : ℕ) (event : Event) (c : Counted) (m : Machine) (o : Option Accessed) (next : Machine) → AllUnterminated m.stops → ((a : Accessed) → o ≡ Some a → IsOver a.stands) →
+    (if t then option_map (λ a. event_done budget i event c m a) o else None) ≡ Some next → AllUnterminated next.stops
+counted_unterminated true budget i event c m o next all over is = mapped_unterminated budget i event c m o next all over is
+counted_unterminated false budget i event c m o next all over is = absurd (cc)
 
 if_unterminated : (b : Bool) (x m : Machine) → AllUnterminated x.stops → (if b then Some x else None) ≡ Some m → AllUnterminated m.stops
 if_unterminated true x m all is = subst (λ (y : Machine). AllUnterminated y.stops) (same_Some _ _ is) all
 if_unterminated false x m all is = cc
 
 item_unterminated : (image : Contents) (budget : ℕ) (turn : Turn) (m : Machine) (o : Option Standstill) (next : Machine) →
-    AllUnterminated m.stops → single_where image budget turn o m ≡ Some next → AllUnterminated next.stops
+    AllUnterminated m.stops → item_where image budget turn o m ≡ Some next → AllUnterminated next.stops
 item_unterminated image budget turn m (Some (Waits event c)) next all is =
-    if_unterminated (turn.count == count_of event) (single image budget turn.vcpu event c m) next
-    (set_unterminated turn.vcpu m.stops _ all (next_unterminated image budget turn.vcpu event c m.devices)) is
+    counted_unterminated (turn.count == count_of event) budget turn.vcpu event c m (singles image turn.vcpu turn.count (Moved c.vcpu) m.devices) next all
+    (λ a made. singles_over image turn.vcpu turn.count (Moved c.vcpu) m.devices a tt made) is
 item_unterminated image budget turn m (Some (Ended end c)) next all is = cc
 item_unterminated image budget turn m None next all is = cc
 

@@ -1,20 +1,17 @@
 -- The plain machine: guests and devices alone, with no page, handler or host.
-use Rattle.std.specs.Prelude.{◌≡◌, ℕ, suc, zero, ◌==◌, ◌+◌, Bool, true, false, ◌&&◌, if◌then◌else◌, List, [], ◌∷◌, ◌++◌, Option, Some, None, option_and_then, slice_get, slice_set}
+use Rattle.std.specs.Prelude.{◌≡◌, ℕ, suc, zero, ◌==◌, ◌+◌, Bool, true, false, ◌&&◌, if◌then◌else◌, List, [], ◌∷◌, ◌++◌, Option, Some, None, option_and_then, option_map, slice_get, slice_set}
 use Rattle.image_file.specs.Image.{Contents}
 use Rattle.event_table.specs.declared.end.End.{End}
 use Rattle.event_table.specs.declared.event.Event.{Event}
-use Rattle.event_table.specs.declared.event.Event.TheVariants.{One}
 use Rattle.event_table.specs.declared.turn.Turn.{Turn}
 use Rattle.event_table.specs.Lawful.{count_of}
-use Rattle.event_table.specs.Plan.{Stepped}
-use Rattle.device_bus.specs.declared.answer.Answer.{Answer}
-use Rattle.device_bus.specs.declared.answer.Answer.TheVariants.{Done, Raise}
+use Rattle.event_table.specs.Plan.{Moved}
 use Rattle.event_table.specs.declared.turn.Entry.{Entry}
-use Rattle.device_bus.specs.Devices.{Devices, opening, answer}
+use Rattle.device_bus.specs.Devices.{Devices, opening}
 use Rattle.event_table.specs.Turns.{turns_of}
-use Rattle.device_bus.specs.History.{after_event, IsLegal}
-use Rattle.guest_interp.specs.Stepping.{start_of, Counted, results_of, Standstill, Waits, Ended, stop_answered, next_within}
-use Rattle.event_table.specs.Raising.{step_raised}
+use Rattle.device_bus.specs.History.{IsLegal}
+use Rattle.guest_interp.specs.Stepping.{start_of, Counted, Standstill, Waits, Ended, stop_answered, next_within}
+use Rattle.plain_machine.specs.Single.{Accessed, at_once, singles}
 
 -- where each vCPU stops, the devices, and the events so far
 pub record Machine : Type 0 where
@@ -30,32 +27,33 @@ first_stops image budget i (suc more) = next_within budget (start_of image i) �
 abbrev pub machine_at_start : Contents → ℕ → List ℕ → Machine
 machine_at_start image budget input = record { stops = first_stops image budget 0 image.header.vcpus; devices = opening image.header.vcpus input; events = [] }
 
--- how the instruction goes on with what the devices say
-abbrev pub answer_applied : Contents → Answer → Counted → Stepped
-answer_applied image (Done values) c = results_of values c.vcpu
-answer_applied image (Raise vector code) c = step_raised image vector code c.vcpu
+-- where a vCPU stops next, once its event came to this
+abbrev pub stop_by : ℕ → Event → Counted → Accessed → Standstill
+stop_by budget event c a = stop_answered (count_of event) c.steps a.stands (λ gone. next_within budget gone)
 
--- where a vCPU stops next, once its event is answered
 abbrev pub stop_after_event : Contents → ℕ → ℕ → Event → Counted → Devices → Standstill
-stop_after_event image budget i (One access) c devices =
-    stop_answered c.steps (answer_applied image (answer devices i access) c) (λ gone. next_within budget gone)
+stop_after_event image budget i event c devices = stop_by budget event c (at_once image i event c.vcpu devices)
 
 -- the event of vCPU i is done
-abbrev pub single : Contents → ℕ → ℕ → Event → Counted → Machine → Machine
-single image budget i event c m = record {
-  stops = slice_set m.stops i (stop_after_event image budget i event c m.devices);
-  devices = after_event m.devices i event;
+abbrev pub event_done : ℕ → ℕ → Event → Counted → Machine → Accessed → Machine
+event_done budget i event c m a = record {
+  stops = slice_set m.stops i (stop_by budget event c a);
+  devices = a.devices;
   events = m.events ++ record { vcpu = i; event = event } ∷ [];
 }
 
-abbrev pub single_where : Contents → ℕ → Turn → Option Standstill → Machine → Option Machine
-single_where image budget turn (Some (Waits event c)) m = if turn.count == count_of event then Some (single image budget turn.vcpu event c m) else None
-single_where image budget turn (Some (Ended end c)) m = None
-single_where image budget turn None m = None
+-- its accesses are done one after another: each is asked, answered and placed before the next
+abbrev pub item_where : Contents → ℕ → Turn → Option Standstill → Machine → Option Machine
+item_where image budget turn (Some (Waits event c)) m =
+    if turn.count == count_of event
+    then option_map (λ a. event_done budget turn.vcpu event c m a) (singles image turn.vcpu turn.count (Moved c.vcpu) m.devices)
+    else None
+item_where image budget turn (Some (Ended end c)) m = None
+item_where image budget turn None m = None
 
 -- one item of an order: the vCPU must wait, and the count must be its event's
 abbrev pub item : Contents → ℕ → Machine → Turn → Option Machine
-item image budget m turn = single_where image budget turn (slice_get m.stops turn.vcpu) m
+item image budget m turn = item_where image budget turn (slice_get m.stops turn.vcpu) m
 
 abbrev pub along : Contents → ℕ → List Turn → Machine → Option Machine
 along image budget [] m = Some m
@@ -77,11 +75,11 @@ abbrev pub plain_run : Contents → ℕ → List ℕ → List Turn → Option Ma
 plain_run image budget input order = option_and_then where_ended (along image budget order (machine_at_start image budget input))
 
 abbrev pub visit_where : Contents → ℕ → ℕ → Option Standstill → Machine → Machine
-visit_where image budget i (Some (Waits event c)) m = single image budget i event c m
+visit_where image budget i (Some (Waits event c)) m = event_done budget i event c m (at_once image i event c.vcpu m.devices)
 visit_where image budget i (Some (Ended end c)) m = m
 visit_where image budget i None m = m
 
--- vCPU i gets one item if it waits
+-- vCPU i gets one item if it waits, at once, as the two ends of its page do it
 abbrev pub visit : Contents → ℕ → ℕ → Machine → Machine
 visit image budget i m = visit_where image budget i (slice_get m.stops i) m
 

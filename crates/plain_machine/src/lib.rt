@@ -4,4 +4,4 @@
 
 mod law;
 
-pub use law::{rounds_run, runs_unterminated};
+pub use law::{events_are_singles, rounds_run, runs_unterminated};

@@ -9,14 +9,14 @@ use Rattle.page_words.proofs.Dialogues.{found_in, runs_kept}
 use Rattle.image_file.specs.Image.{Contents}
 use Rattle.device_bus.specs.Devices.{Devices}
 use Rattle.vc_handler.specs.Version.{negotiated, question}
-use Rattle.host_events.specs.declared.call.Call.{Call}
-use Rattle.host_events.specs.declared.call.Call.TheVariants.{SevInfo}
+use Rattle.host_events.specs.Call.{Call}
+use Rattle.host_events.specs.Call.{SevInfo}
 use Rattle.event_table.specs.declared.turn.Entry.{Entry}
 use Rattle.host_events.specs.Calls.{call_of}
 use Rattle.host_events.specs.Served.{entries, entries_by, served, served_by}
 use Rattle.host_events.specs.Hosting.{Hosting, Leaves, after_serve}
 use Rattle.guest_interp.specs.Stepping.{Counted}
-use Rattle.vcpu_core.specs.declared.phase.Phase.TheVariants as phase
+use Rattle.vcpu_core.specs.Phase as phase
 use Rattle.vcpu_core.specs.State.{State, state}
 use Rattle.vcpu_core.specs.Running.{state_advanced, items_said}
 use Rattle.vcpu_core.specs.Resuming.{agreeing, resuming}

@@ -8,7 +8,9 @@ use Rattle.page_words.specs.Dialogue.{Runs}
 use Rattle.page_words.proofs.Making.{kept-after_all}
 use Rattle.page_words.proofs.Dialogues.{Left, found_in, runs_kept, found_listen}
 use Rattle.event_table.specs.declared.event.Event.{Event}
-use Rattle.event_table.specs.declared.event.Event.TheVariants.{One}
+use Rattle.event_table.specs.declared.event.Event.TheVariants.{One, Many}
+use Rattle.event_table.specs.declared.access.Access.{Access}
+use Rattle.event_table.specs.Lawful.{count_of}
 use Rattle.event_table.specs.declared.outcome.Outcome.{Outcome}
 use Rattle.event_table.specs.declared.turn.Turn.{Turn}
 use Rattle.image_file.specs.Format.{most_vcpus}
@@ -19,21 +21,19 @@ use Rattle.device_bus.specs.declared.answer.Answer.{Answer}
 use Rattle.device_bus.specs.declared.answer.Answer.TheVariants.{Done, Raise}
 use Rattle.device_bus.specs.Devices.{Devices, answer}
 use Rattle.event_table.specs.Turns.{turn_of}
-use Rattle.device_bus.specs.History.{after_event}
 use Rattle.vc_handler.specs.Wire.{wire}
 use Rattle.vc_handler.specs.Accept.{accepting}
 use Rattle.host_events.specs.Served.{served, entries}
 use Rattle.host_events.specs.Hosting.{Hosting, after_serve, Leaves}
-use Rattle.both_ends.specs.BothEnds.{outcome_on, outcome_of, answer_to, Agrees, BothEndsAgree}
-use Rattle.vcpu_core.specs.declared.phase.Phase.TheVariants as phase
+use Rattle.both_ends.specs.BothEnds.{outcome_of, outcome_on, outcome_to, Agrees, BothEndsAgree}
+use Rattle.vcpu_core.specs.Phase as phase
 use Rattle.vcpu_core.specs.State.{State, state, is_waiting, pending_in, IsLawfulPhase}
 use Rattle.vcpu_core.specs.Running.{state_advanced, items_said, items_said_at, state_stopped}
 use Rattle.vcpu_core.specs.Resuming.{state_answered, resuming, settling}
 use Rattle.event_table.specs.Ending.{IsOver}
-use Rattle.event_table.proofs.Over.{raised_over}
-use Rattle.guest_interp.proofs.Going.{results_over}
-use Rattle.plain_machine.proofs.PlainEnds.{answered_over}
-use Rattle.plain_machine.specs.Plain.{Machine, answer_applied, stop_after_event, single, visit_where}
+use Rattle.plain_machine.proofs.Over.{applied_over}
+use Rattle.plain_machine.specs.Plain.{Machine, event_done, stop_after_event, visit_where}
+use Rattle.plain_machine.specs.Single.{answer_applied, at_once, event_applied}
 use Rattle.round_runner.specs.Standing.{IsVcpuAt, IsShown, Tells, stop_then}
 
 -- what is said at a stop is shown there
@@ -59,54 +59,60 @@ runs_on budget i c v1 v2 old new is full makes goes lawful =
           (subst (λ (x : State). IsLawfulPhase x.phase) there lawful);
     }
 
-landed_gone : (budget i steps : ℕ) (s : Stepped) → state_advanced budget (state_answered i steps s) ≡ state_stopped i (stop_answered steps s (λ c. next_within budget c))
-landed_gone budget i steps (Moved v) = refl
-landed_gone budget i steps (Asked access v) = refl
-landed_gone budget i steps (Stops end v) = refl
+landed_gone : (budget i count steps : ℕ) (s : Stepped) → state_advanced budget (state_answered i count steps s) ≡ state_stopped i (stop_answered count steps s (λ c. next_within budget c))
+landed_gone budget i count steps (Moved v) = refl
+landed_gone budget i count steps (Asked event v) = refl
+landed_gone budget i count steps (Stops end v) = refl
 
-landed_shown : (budget i steps : ℕ) (s : Stepped) (old new : Kept) → IsOver s → length old.words ≡ 512 → Makes (keeping old) (items_said budget (state_answered i steps s)) (keeping new) →
-    IsLawfulPhase (state_stopped i (stop_answered steps s (λ c. next_within budget c))).phase → IsShown i (stop_answered steps s (λ c. next_within budget c)) new
-landed_shown budget i steps (Moved v) old new over full makes lawful = stop_shown i (next_within budget (at_count v (steps + 1))) old new full makes lawful
-landed_shown budget i steps (Asked access v) old new over full makes lawful = absurd over
-landed_shown budget i steps (Stops end v) old new over full makes lawful = tt
+landed_shown : (budget i count steps : ℕ) (s : Stepped) (old new : Kept) → IsOver s → length old.words ≡ 512 → Makes (keeping old) (items_said budget (state_answered i count steps s)) (keeping new) →
+    IsLawfulPhase (state_stopped i (stop_answered count steps s (λ c. next_within budget c))).phase → IsShown i (stop_answered count steps s (λ c. next_within budget c)) new
+landed_shown budget i count steps (Moved v) old new over full makes lawful = stop_shown i (next_within budget (at_count v (steps + count))) old new full makes lawful
+landed_shown budget i count steps (Asked event v) old new over full makes lawful = absurd over
+landed_shown budget i count steps (Stops end v) old new over full makes lawful = tt
 
--- once its access is answered it goes on to its stop
-landed_at : (budget i steps : ℕ) (s : Stepped) (v1 v2 : State) (old new : Kept) → IsOver s → v1 ≡ state_answered i steps s → length old.words ≡ 512 →
+-- once its event is answered it goes on to its stop
+landed_at : (budget i count steps : ℕ) (s : Stepped) (v1 v2 : State) (old new : Kept) → IsOver s → v1 ≡ state_answered i count steps s → length old.words ≡ 512 →
     Makes (keeping old) (items_said budget v1) (keeping new) → v2 ≡ state_advanced budget v1 → IsLawfulPhase v2.phase →
-    IsVcpuAt i (record { vcpu = v2; page = new }) (stop_answered steps s (λ c. next_within budget c))
-landed_at budget i steps s v1 v2 old new over is full makes goes lawful =
-    let there : v2 ≡ state_stopped i (stop_answered steps s (λ c. next_within budget c)) = goes ∙ ap (λ (x : State). state_advanced budget x) is ∙ landed_gone budget i steps s in
+    IsVcpuAt i (record { vcpu = v2; page = new }) (stop_answered count steps s (λ c. next_within budget c))
+landed_at budget i count steps s v1 v2 old new over is full makes goes lawful =
+    let there : v2 ≡ state_stopped i (stop_answered count steps s (λ c. next_within budget c)) = goes ∙ ap (λ (x : State). state_advanced budget x) is ∙ landed_gone budget i count steps s in
     record {
       is_stopped = there;
       is_shown =
-          landed_shown budget i steps s old new over full (subst (λ (x : State). Makes (keeping old) (items_said budget x) (keeping new)) is makes)
+          landed_shown budget i count steps s old new over full (subst (λ (x : State). Makes (keeping old) (items_said budget x) (keeping new)) is makes)
           (subst (λ (x : State). IsLawfulPhase x.phase) there lawful);
     }
 
 -- what the devices say lands, and is over with it
-answered_left : (image : Contents) (i : ℕ) (c : Counted) (a : Answer) (k : Kept) → found_in (settling image i c (outcome_of a)) k ≡ record { value = state_answered i c.steps (answer_applied image a c); page = k }
-answered_left image i c (Done values) k = refl
-answered_left image i c (Raise vector code) k = refl
+answer_left : (image : Contents) (i : ℕ) (access : Access) (c : Counted) (a : Answer) (k : Kept) →
+    found_in (settling image i c (One access) (outcome_of a)) k ≡ record { value = state_answered i 1 c.steps (answer_applied image a c.vcpu); page = k }
+answer_left image i access c (Done values) k = refl
+answer_left image i access c (Raise vector code) k = refl
+
+answered_left : (image : Contents) (i : ℕ) (e : Event) (c : Counted) (d : Devices) (k : Kept) →
+    found_in (settling image i c e (outcome_to d i e)) k ≡ record { value = state_answered i (count_of e) c.steps (event_applied image i e c.vcpu d); page = k }
+answered_left image i (One access) c d k = answer_left image i access c (answer d i access) k
+answered_left image i (Many block) c d k = refl
 
 -- from the reply to the next stop
 answered_at : (image : Contents) (budget i : ℕ) (e : Event) (c : Counted) (d : Devices) (v0 v1 v2 : State) (page1 page2 page3 : Kept) → length page1.words ≡ 512 →
-    v0 ≡ state i c (phase.Waits e) → outcome_on e page1 ≡ outcome_of (answer_to d i e) → Runs (resuming image v0) v1 (keeping page1) (keeping page2) →
+    v0 ≡ state i c (phase.Waits e) → outcome_on e page1 ≡ outcome_to d i e → Runs (resuming image v0) v1 (keeping page1) (keeping page2) →
     Makes (keeping page2) (items_said budget v1) (keeping page3) → v2 ≡ state_advanced budget v1 → IsLawfulPhase v2.phase → IsVcpuAt i (record { vcpu = v2; page = page3 }) (stop_after_event image budget i e c d)
-answered_at image budget i (One access) c d v0 v1 v2 page1 page2 page3 full is outcome runs makes goes lawful =
-    let a = answer d i access in
-    let left : found_in (resuming image v0) page1 ≡ record { value = state_answered i c.steps (answer_applied image a c); page = page1 } =
+answered_at image budget i e c d v0 v1 v2 page1 page2 page3 full is outcome runs makes goes lawful =
+    let gone = event_applied image i e c.vcpu d in
+    let left : found_in (resuming image v0) page1 ≡ record { value = state_answered i (count_of e) c.steps gone; page = page1 } =
     ap (λ (x : State). found_in (resuming image x) page1) is
-    ∙ found_listen (accepting (One access)) (λ o. settling image i c o) page1
-    ∙ ap (λ (o : Outcome). found_in (settling image i c o) page1) outcome
-    ∙ answered_left image i c a page1 in
+    ∙ found_listen (accepting e) (λ o. settling image i c e o) page1
+    ∙ ap (λ (o : Outcome). found_in (settling image i c e o) page1) outcome
+    ∙ answered_left image i e c d page1 in
     let kept = runs_kept (resuming image v0) v1 (keeping page1) (keeping page2) page1 refl runs in
-    let value : v1 ≡ state_answered i c.steps (answer_applied image a c) = kept.0 ∙ ap (λ (l : Left State). l.value) left in
+    let value : v1 ≡ state_answered i (count_of e) c.steps gone = kept.0 ∙ ap (λ (l : Left State). l.value) left in
     let same : page2 ≡ page1 = same_Some _ _ kept.1 ∙ ap (λ (l : Left State). l.page) left in
-    landed_at budget i c.steps (answer_applied image a c) v1 v2 page2 page3 (answered_over image a c) value (ap (λ (p : Kept). length p.words) same ∙ full) makes goes lawful
+    landed_at budget i (count_of e) c.steps gone v1 v2 page2 page3 (applied_over image i e c.vcpu d) value (ap (λ (p : Kept). length p.words) same ∙ full) makes goes lawful
 
 told_on : (image : Contents) (budget i : ℕ) (e : Event) (v : Counted) (page : Kept) (h0 h1 : Hosting) (order0 order1 : List Turn) (m : Machine) →
     Agrees i e page m.devices → Tells h0 order0 m → h1 ≡ after_serve i page h0 → order1 ≡ order0 ++ turn_of (record { vcpu = i; event = e }) ∷ [] →
-    Tells h1 order1 (single image budget i e v m)
+    Tells h1 order1 (event_done budget i e v m (at_once image i e v.vcpu m.devices))
 told_on image budget i e v page h0 h1 order0 order1 m agrees tells serves pushed = record {
   devices =
       ap (λ (h : Hosting). h.devices) serves
@@ -139,7 +145,7 @@ visited ends_agree image budget v0 v1 v2 page0 page1 page2 page3 h0 h1 order0 or
     let agrees : Agrees i e page0 m.devices = subst (λ (p : Kept). Agrees i e p m.devices) (sym same) (ends_agree i e at.is_shown.before m.devices few at.is_shown.lawful at.is_shown.full) in
     let left : page1 ≡ (served i page0 m.devices).page = subst (λ o. IfSome o (λ d. page1 ≡ (served i page0 d).page)) tells.devices leaves in
     let full : length page1.words ≡ 512 = ap (λ (p : Kept). length p.words) left ∙ agrees.full in
-    let outcome : outcome_on e page1 ≡ outcome_of (answer_to m.devices i e) = ap (λ (p : Kept). outcome_on e p) left ∙ agrees.outcome in (
+    let outcome : outcome_on e page1 ≡ outcome_to m.devices i e = ap (λ (p : Kept). outcome_on e p) left ∙ agrees.outcome in (
       answered_at image budget i e v m.devices v0 v1 v2 page1 page2 page3 full at.is_stopped outcome runs makes goes lawful,
       told_on image budget i e v page0 h0 h1 order0 order1 m agrees tells serves
           (pushed ∙ ap (λ (x : State). order0 ++ record { vcpu = i; count = pending_in x.phase } ∷ []) at.is_stopped),

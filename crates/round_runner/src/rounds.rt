@@ -1,5 +1,5 @@
 // A run in rounds.
-ghost use Rattle.std.specs.Prelude.{◌≡◌, ◌<◌, ◌≤◌, length, map, unwrap_or, is_some, IsSome, OnOk, OnErr, IfOk};
+ghost use Rattle.std.specs.Prelude.{◌≡◌, ◌-◌, ◌^◌, ◌<◌, ◌≤◌, length, map, unwrap_or, is_some, IsSome, OnOk, OnErr, IfOk};
 ghost use Rattle.std.specs.List.{list_all};
 ghost use Rattle.event_table.specs.declared.end.End.TheVariants.{Spent as spent};
 ghost use Rattle.host_events.specs.Hosting.{IsTelling};
@@ -25,6 +25,7 @@ fn seat_of<H: Host>(
     host: &mut H,
 ) -> Result<VcpuOnPage, OutOfMemory>
     requires known { number < (H.told host.old).vcpus }
+    requires budget { budget ≤ 2 ^ 64 - 2032 }
     ensures number { IfOk result (λ seat. seat.vcpu.number ≡ number) }
     ensures at { IsSome (H.told host.old).devices → IfOk result (λ seat.
         IsVcpuAt number seat (next_within budget (start_of image.now number))) }
@@ -47,6 +48,7 @@ fn open<H: Host>(
     host: &mut H,
 ) -> Result<Vec<VcpuOnPage>, OutOfMemory>
     requires hosted { (H.told host.old).vcpus ≡ image.now.header.vcpus }
+    requires budget { budget ≤ 2 ^ 64 - 2032 }
     ensures at { IsSome (H.told host.old).devices → IfOk result (λ seats.
         AreAt 0 seats.items (first_stops image.now budget 0 image.now.header.vcpus)) }
     ensures numbered { IfOk result (λ seats. AreNumbered 0 seats.items) }
@@ -74,6 +76,7 @@ fn round<H: Host>(
     requires many { length seats.old ≡ image.now.header.vcpus }
     requires numbered { AreNumbered 0 seats.old }
     requires hosted { (H.told host.old).vcpus ≡ image.now.header.vcpus }
+    requires budget { budget ≤ 2 ^ 64 - 2032 }
     ensures ok { (m : Machine) → Stands seats.old (H.told host.old) order.old.items m
         → OnOk result (Stands seats.new (H.told host.new) order.new.items
         (visits image.now budget image.now.header.vcpus m)) }
@@ -130,7 +133,9 @@ fn finish(alloc: Global, seats: &[VcpuOnPage], order: Vec<Turn>) -> Result<Finis
 }
 
 /// Starts the host and runs each vCPU of the image over its page and the host, in rounds, to its end:
-/// `budget` steps each. Refused, the host is as before, or it was started and has served some pages since.
+/// `budget` steps each. A block that begins within the budget is done whole, and each of its elements is a
+/// step; so that the count of steps fits, the budget is at most 2^64 - 2,032. Refused, the host is as before,
+/// or it was started and has served some pages since.
 pub fn run_rounds<H: Host>(
     alloc: Global,
     image: &Image,
@@ -138,6 +143,7 @@ pub fn run_rounds<H: Host>(
     budget: u64,
     host: &mut H,
 ) -> Result<Finished, OutOfMemory>
+    requires budget { budget ≤ 2 ^ 64 - 2032 }
     ensures ran { IsTelling (H.told host.old) → IfOk result (λ f.
         RanRounds image.now budget input.items f (H.told host.new)) }
     ensures refused { OnErr result (IsAsBeforeOrStarted image.now input.items (H.told host.old) (H.told host.new)) }

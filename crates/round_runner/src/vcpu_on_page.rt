@@ -1,9 +1,9 @@
 // A vCPU with its page.
-ghost use Rattle.std.specs.Prelude.{◌≡◌, ◌<◌, length, IfOk, IsSome, OnOk};
+ghost use Rattle.std.specs.Prelude.{◌≡◌, ◌-◌, ◌^◌, ◌<◌, ◌≤◌, length, IfOk, IsSome, OnOk};
 ghost use Rattle.image_file.specs.Format.{most_vcpus};
 ghost use Rattle.image_file.specs.Image.{opening_ram};
 ghost use Rattle.guest_interp.specs.Stepping.{Standstill, start_of};
-ghost use Rattle.vcpu_core.specs.declared.phase.Phase.TheVariants as phases;
+ghost use Rattle.vcpu_core.specs.Phase as phases;
 ghost use Rattle.vcpu_core.specs.State.{state};
 ghost use Rattle.plain_machine.specs.Plain.{Machine, visit_where};
 ghost use Rattle.round_runner.specs.Started.{StaysStarted};
@@ -65,6 +65,7 @@ pub fn serve_turn<H: Host>(
     requires numbered { number ≡ seat.old.vcpu.number }
     requires known { seat.old.vcpu.number < (H.told host.old).vcpus }
     requires few { seat.old.vcpu.number < most_vcpus }
+    requires budget { budget ≤ 2 ^ 64 - 2032 }
     ensures ok { (m : Machine) (stop : Standstill) → IsVcpuAt seat.old.vcpu.number seat.old stop
         → Tells (H.told host.old) order.old.items m
         → OnOk result (IsVcpuAt seat.old.vcpu.number seat.new

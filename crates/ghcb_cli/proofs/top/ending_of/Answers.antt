@@ -2,15 +2,13 @@ use Rattle.std.proofs.Common.{rules, ◌≡◌, ℕ, List, Option, Some, None, m
 use Rattle.std.specs.Prelude.{option_map}
 use Rattle.std.specs.String.{string_bytes}
 use Rattle.page_words.specs.Told.{Kept}
-use Rattle.show_text.specs.Info.{info_text}
-use Rattle.show_text.specs.Msr.{msr_text}
 use Rattle.show_text.specs.Page.{page_text}
 use Rattle.ghcb_cli.specs.declared.command.Command.TheVariants.{Hostile, ShowPage, ShowMsr, ShowInfo}
 use Rattle.ghcb_cli.specs.declared.command.Task.{Task}
 use Rattle.ghcb_cli.specs.declared.command.Task.TheVariants as task
 use Rattle.ghcb_cli.specs.declared.commands.Ending.TheVariants as ending
-use Rattle.ghcb_cli.specs.Command.{command_of, reading_of, command_word}
-use Rattle.ghcb_cli.specs.Ending.{PutsAs, told}
+use Rattle.ghcb_cli.specs.Command.{command_of, command_word}
+use Rattle.ghcb_cli.specs.Ending.{PutsAs}
 use Rattle.ghcb_cli.specs.Task.{HasWords}
 use Rattle.ghcb_cli.proofs.Answering.{reading_is}
 use Rattle.ghcb_cli.proofs.Endings.{usage_ends, shown_ends}
@@ -18,12 +16,8 @@ use Rattle.ghcb_cli.proofs.top.ending_of.Goals as goal
 
 pub returns-in-None-clause-ends : goal.returns-in-None-clause-ends
 returns-in-None-clause-ends g c =
-    let words = map string_bytes c.args.words.now in
-    let none : command_of words ≡ None = search rules in
-    usage_ends words
-    (told (g.F.Files.told c.args.files.now) (g.S.Sink.told c.args.out.now) (g.H.Host.told c.args.host.now))
-    (told (g.F.Files.told c.args.files.now) (g.S.Sink.told c.put.new.out) (g.H.Host.told c.args.host.now))
-    c.put.result none refl refl
+    let none : command_of (map string_bytes c.args.words.now) ≡ None = search rules in
+    usage_ends _ _ _ _ none refl refl
     (subst (λ (text : List ℕ). PutsAs ending.Usage text (g.S.Sink.told c.args.out.now) (g.S.Sink.told c.put.new.out) c.put.result) c.usage.ensures.text c.put.ensures.ends)
 
 pub returns-in-Some-Hostile-clause-ends : goal.returns-in-Some-Hostile-clause-ends
@@ -32,42 +26,28 @@ returns-in-Some-Hostile-clause-ends g c =
     let command : command_of words ≡ Some (Hostile c.in-Some-Hostile.steps) = search rules in
     let has : HasWords (command_word words 1) (command_word words 2) (task.Hostile c.in-Some-Hostile.image c.in-Some-Hostile.script c.in-Some-Hostile.steps) =
     subst (λ (t : Task). HasWords (command_word words 1) (command_word words 2) t) c.in-Some-Hostile.field-0-is c.in-Some-Hostile.ensures.words in
-    c.script_files.ensures.ends words (g.H.Host.told c.args.host.now) command has.0 has.1
+    c.on_files-in-Some-Hostile.ensures.ends words command has.0 has.1
 
 pub returns-in-Some-ShowPage-clause-ends : goal.returns-in-Some-ShowPage-clause-ends
 returns-in-Some-ShowPage-clause-ends g c =
     let words = map string_bytes c.args.words.now in
     let command : command_of words ≡ Some ShowPage = search rules in
-    let text = c.as_bytes.result.now in
-    let is : text ≡ page_text c.in-Some-ShowPage.page = c.as_bytes.ensures.value ∙ c.page_text.ensures.text in
+    let is : c.as_bytes.result.now ≡ page_text c.in-Some-ShowPage.page = c.as_bytes.ensures.value ∙ c.page_text.ensures.text in
     let has : HasWords (command_word words 1) (command_word words 2) (task.ShowPage c.in-Some-ShowPage.page) =
     subst (λ (t : Task). HasWords (command_word words 1) (command_word words 2) t) c.in-Some-ShowPage.field-0-is c.in-Some-ShowPage.ensures.words in
-    let reads : reading_of words ≡ Some text = reading_is words _ text command (ap (λ (o : Option Kept). option_map page_text o) has ∙ ap Some (sym is)) in
-    shown_ends words text
-    (told (g.F.Files.told c.args.files.now) (g.S.Sink.told c.args.out.now) (g.H.Host.told c.args.host.now))
-    (told (g.F.Files.told c.args.files.now) (g.S.Sink.told c.put-in-Some-ShowPage.new.out) (g.H.Host.told c.args.host.now))
-    c.put-in-Some-ShowPage.result reads refl refl c.put-in-Some-ShowPage.ensures.ends
+    let reads = reading_is words _ _ command (ap (λ (o : Option Kept). option_map page_text o) has ∙ ap Some (sym is)) in
+    shown_ends _ _ _ _ _ reads refl refl c.put-in-Some-ShowPage.ensures.ends
 
 pub returns-in-Some-ShowMsr-clause-ends : goal.returns-in-Some-ShowMsr-clause-ends
 returns-in-Some-ShowMsr-clause-ends g c =
     let words = map string_bytes c.args.words.now in
     let command : command_of words ≡ Some (ShowMsr c.in-Some-ShowMsr.word) = search rules in
-    let text = c.as_bytes-in-Some-ShowMsr.result.now in
-    let is : text ≡ msr_text c.in-Some-ShowMsr.word = c.as_bytes-in-Some-ShowMsr.ensures.value ∙ c.msr_text.ensures.text in
-    let reads : reading_of words ≡ Some text = reading_is words _ text command (ap Some (sym is)) in
-    shown_ends words text
-    (told (g.F.Files.told c.args.files.now) (g.S.Sink.told c.args.out.now) (g.H.Host.told c.args.host.now))
-    (told (g.F.Files.told c.args.files.now) (g.S.Sink.told c.put-in-Some-ShowMsr.new.out) (g.H.Host.told c.args.host.now))
-    c.put-in-Some-ShowMsr.result reads refl refl c.put-in-Some-ShowMsr.ensures.ends
+    let is = c.as_bytes-in-Some-ShowMsr.ensures.value ∙ c.msr_text.ensures.text in
+    shown_ends words _ _ _ _ (reading_is words _ _ command (ap Some (sym is))) refl refl c.put-in-Some-ShowMsr.ensures.ends
 
 pub returns-in-Some-ShowInfo-clause-ends : goal.returns-in-Some-ShowInfo-clause-ends
 returns-in-Some-ShowInfo-clause-ends g c =
     let words = map string_bytes c.args.words.now in
     let command : command_of words ≡ Some (ShowInfo c.in-Some-ShowInfo.word) = search rules in
-    let text = c.as_bytes-in-Some-ShowInfo.result.now in
-    let is : text ≡ info_text c.in-Some-ShowInfo.word = c.as_bytes-in-Some-ShowInfo.ensures.value ∙ c.info_text.ensures.text in
-    let reads : reading_of words ≡ Some text = reading_is words _ text command (ap Some (sym is)) in
-    shown_ends words text
-    (told (g.F.Files.told c.args.files.now) (g.S.Sink.told c.args.out.now) (g.H.Host.told c.args.host.now))
-    (told (g.F.Files.told c.args.files.now) (g.S.Sink.told c.put-in-Some-ShowInfo.new.out) (g.H.Host.told c.args.host.now))
-    c.put-in-Some-ShowInfo.result reads refl refl c.put-in-Some-ShowInfo.ensures.ends
+    let is = c.as_bytes-in-Some-ShowInfo.ensures.value ∙ c.info_text.ensures.text in
+    shown_ends words _ _ _ _ (reading_is words _ _ command (ap Some (sym is))) refl refl c.put-in-Some-ShowInfo.ensures.ends

@@ -12,7 +12,7 @@ pub serve_turn-requires : goal.serve_turn-requires
 serve_turn-requires g c =
     let within : c.from.result < length c.loop-i.seats = omega arith in
     let is = numbered_get 0 c.from.result c.loop-i.seats _ c.loop-i.invariant.numbered (slice_get-get_or c.loop-i.seats c.from.result c.index-seats-from.result within) in
-    record { numbered = omega (arith, is, c.from.ensures); known = omega (arith, is); few = omega (arith, is) }
+    record { numbered = omega (arith, is, c.from.ensures); known = omega (arith, is); few = omega (arith, is); budget = c.requires.budget }
 
 pub returns-in_err-serve_turn-clause-numbered : goal.returns-in_err-serve_turn-clause-numbered
 returns-in_err-serve_turn-clause-numbered g c =
