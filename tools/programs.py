@@ -17,9 +17,9 @@ from typing import NamedTuple
 TOP = Path(__file__).resolve().parent.parent
 SCRIPT = Path(sys.argv[0]).name
 # The model answers for later versions of `ghcb_run` too. Its variable ORACLE_STAGE and its words --proto 1 say how
-# far it is to go: stage 5 of version 1 of the protocol has one vCPU, port I/O of registers, CPUID, MSRs, time-stamp
-# counters and faults, and neither string I/O nor MMIO.
-MODEL_VARIABLES = {"ORACLE_STAGE": "5"}
+# far it is to go: stage 6 of version 1 of the protocol has one vCPU, port I/O of registers and of strings, CPUID, MSRs,
+# time-stamp counters and faults, and no MMIO.
+MODEL_VARIABLES = {"ORACLE_STAGE": "6"}
 MODEL_WORDS = ("--proto", "1")
 SECONDS = 300
 WORKERS = 2

@@ -21,7 +21,8 @@ def four_bytes(number):
 def routine(place, ram):
     """Code that stores registers and flags at `place` and prints them, and then a sum of the RAM behind them.
 
-    What stands before the printing changes no flag and uses no stack.
+    What stands before the printing changes no flag and uses no stack. DF shows by the byte that is printed second: an
+    OUTSB has printed the first, and gone on by DF.
     """
     stores = [
         bytes([0x48 | n // 8 << 2, 0x89, 0x04 | n % 8 << 3, 0x25]) + four_bytes(place + 8 * n)  # MOV [..], reg n
@@ -35,6 +36,7 @@ def routine(place, ram):
         b"\xBA" + four_bytes(0x3F8),  # MOV EDX, the console
         b"\xBE" + four_bytes(place),  # MOV ESI, place
         b"\xB9" + four_bytes(STATE_SIZE),  # MOV ECX, STATE_SIZE
+        b"\x6E",  # OUTSB
         b"\x8A\x06",  # MOV AL, [RSI]
         b"\xEE",  # OUT DX, AL
         b"\x48\xFF\xC6",  # INC RSI
