@@ -1,5 +1,5 @@
 // The instructions that were decoded last, by the low six bits of their addresses.
-ghost use Rattle.std.specs.Prelude.{◌≡◌, ◌%◌, IfOk, IfSome, Some, replicate, slice_set};
+ghost use Rattle.std.specs.Prelude.{◌≡◌, ◌%◌, IfOk, option_map, replicate, slice_set};
 ghost use Rattle.image_file.specs.Kept.{kept_at, kept_insn, no_insn};
 
 use std::alloc::{AllocError as OutOfMemory, Global};
@@ -47,7 +47,7 @@ impl Slots {
 
     /// The instruction that is kept of an address.
     pub fn at(&self, address: u64) -> Option<&Insn>
-        ensures kept { IfSome result (λ insn. kept_at self.now address ≡ Some insn.now) }
+        ensures kept { option_map (λ insn. insn.now) result ≡ kept_at self.now address }
     {
         let kept = &self.items[(address % 64) as usize];
         if kept.at == address {
