@@ -11,7 +11,9 @@ use Rattle.x86_base.specs.declared.reg.Width.{Width}
 use Rattle.x86_base.specs.declared.reg.Width.TheVariants.{B16, B64}
 use Rattle.x86_base.specs.Widths.{size_of}
 use Rattle.event_table.specs.declared.access.Values.{Values}
+use Rattle.event_table.specs.declared.access.Access.TheVariants as access
 use Rattle.event_table.specs.declared.event.Event.{Event}
+use Rattle.event_table.specs.declared.event.Event.TheVariants.{One}
 use Rattle.event_table.specs.declared.outcome.Reply.{Reply}
 use Rattle.event_table.specs.declared.end.End.TheVariants.{Undecoded}
 use Rattle.event_table.specs.declared.places.Place.{Place}
@@ -20,6 +22,7 @@ use Rattle.event_table.specs.declared.row.Kind.{Kind}
 use Rattle.event_table.specs.declared.row.Kind.TheVariants as kind
 use Rattle.event_table.specs.declared.row.Row.{Row}
 use Rattle.event_table.specs.Elements.{is_string, port_width, string_of}
+use Rattle.event_table.specs.Moves.{is_move, move_of}
 use Rattle.event_table.specs.Places.{Vcpu, Number, number}
 use Rattle.event_table.specs.Plan.{Plan, Ends, Looks, Move, Named, Asks, Setting, Stepped, apart, event_asked, goes, onward, reply_with, step_answered, setting, with_moves}
 use Rattle.event_table.specs.Rows.{event_by, event_row, kind_of_event, registers}
@@ -79,7 +82,10 @@ registers_plan i s private = Looks Named (port_at i.op i ∷ []) (λ seen. event
 
 -- an instruction's plan, where `private` is that of one that exits for nothing
 abbrev pub event_plan : Insn → Setting → Plan → Plan
-event_plan i s private = if is_string i.op then string_of i s else registers_plan i s private
+event_plan i s private =
+    if is_string i.op then string_of i s
+    else if is_move i.op then move_of i s private
+    else registers_plan i s private
 
 -- the plan of an instruction that exits; one that doesn't is no event
 abbrev pub exit_of : Insn → Setting → Plan
@@ -100,6 +106,9 @@ asked_apart i v = event_asked v (exit_of i (apart v i.len))
 abbrev pub placed_apart : Values → Insn → Vcpu → Stepped
 placed_apart values i v = step_answered (reply_with values) v (exit_of i (apart v i.len))
 
--- the exit code with which #VC is raised for an event (AMD 56421, section 2.6; APM volume 2, appendix C)
+-- the exit code with which #VC is raised for an event: of MMIO that of a nested page fault (AMD 56421, section 2.6; APM
+-- volume 2, appendix C)
 abbrev pub vc_code : Event → ℕ
+vc_code (One (access.MmioRead at len)) = 0x400
+vc_code (One (access.MmioWrite at len value)) = 0x400
 vc_code event = (event_row (kind_of_event event)).code

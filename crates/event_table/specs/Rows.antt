@@ -3,6 +3,7 @@ use Rattle.std.specs.Prelude.{ℕ, ◌*◌, ◌%◌, ◌^◌, ◌==◌, ◌&&◌
 use Rattle.x86_base.specs.declared.reg.Width.{Width}
 use Rattle.x86_base.specs.declared.reg.Width.TheVariants.{B8, B16, B32, B64}
 use Rattle.x86_base.specs.Widths.{bits_of, low}
+use Rattle.image_file.specs.Number.{number_at}
 use Rattle.exit_info.specs.declared.exit_code.ExitCode.{ExitCode}
 use Rattle.exit_info.specs.declared.exit_code.ExitCode.TheVariants as code
 use Rattle.exit_info.specs.declared.io_info.IoInfo.{IoInfo}
@@ -71,6 +72,11 @@ event_row (kind.Outs port size rep count) =
     buffer_row code.Io (info_word (string_io_of port size rep false)) count
 event_row (kind.Ins port size rep count) =
     buffer_row code.Io (info_word (string_io_of port size rep true)) count
+-- MMIO Access
+event_row (kind.MmioRead at len) =
+    buffer_row code.MmioRead at len
+event_row (kind.MmioWrite at len) =
+    buffer_row code.MmioWrite at len
 -- CPUID
 event_row kind.Cpuid =
     row (shows 0 1 1 0 1) (results 1 1 1 1) B32 code.Cpuid 0
@@ -111,6 +117,8 @@ kind_of access.Rdtscp = kind.Rdtscp
 kind_of (access.Rdpmc index) = kind.Rdpmc
 kind_of access.Wbinvd = kind.Wbinvd
 kind_of (access.Vmmcall rax) = kind.Vmmcall
+kind_of (access.MmioRead at len) = kind.MmioRead at len
+kind_of (access.MmioWrite at len value) = kind.MmioWrite at len
 
 -- a block is its kind, with its count, and the bytes of its elements
 abbrev pub kind_of_block : Block → Kind
@@ -123,6 +131,7 @@ kind_of_event (Many block) = kind_of_block block
 -- how many bytes come back in the shared buffer
 abbrev pub bytes_back : Kind → ℕ
 bytes_back (kind.Ins port size rep count) = count * size
+bytes_back (kind.MmioRead at len) = len
 bytes_back _ = 0
 
 abbrev pub registers : ℕ → ℕ → ℕ → Registers
@@ -139,6 +148,8 @@ registers_of access.Rdtscp = registers 0 0 0
 registers_of (access.Rdpmc index) = registers 0 index 0
 registers_of access.Wbinvd = registers 0 0 0
 registers_of (access.Vmmcall rax) = registers rax 0 0
+registers_of (access.MmioRead at len) = registers 0 0 0
+registers_of (access.MmioWrite at len value) = registers 0 0 0
 
 abbrev pub block : ℕ → ℕ → Bool → Bool → ℕ → List ℕ → Block
 block port size input rep count bytes =
@@ -159,3 +170,5 @@ event_by kind.Rdtscp r bytes = One access.Rdtscp
 event_by kind.Rdpmc r bytes = One (access.Rdpmc (r.c % 2 ^ 32))
 event_by kind.Wbinvd r bytes = One access.Wbinvd
 event_by kind.Vmmcall r bytes = One (access.Vmmcall r.a)
+event_by (kind.MmioRead at len) r bytes = One (access.MmioRead at len)
+event_by (kind.MmioWrite at len) r bytes = One (access.MmioWrite at len (number_at len 0 bytes))

@@ -11,6 +11,7 @@ ghost use Rattle.event_table.specs.declared.event.Event.TheVariants.{One};
 
 use crate::access::{Access, Values};
 use crate::elements::{is_string, named_element, place_element, port_size};
+use crate::moves::{is_move, named_move, place_move};
 use crate::places::following;
 use crate::row::{Kind, Registers, access_of, row_of};
 use image_file::Ram;
@@ -98,13 +99,15 @@ fn named_registers(regs: &Regs, insn: &Insn) -> Option<Access>
 
 /// The access that an instruction asks of the devices, at registers and RAM; of string I/O that of its
 /// next element. There is none exactly where the instruction exits for nothing, has REP with RCX 0, or
-/// its first element can't be moved.
+/// its first element can't be moved; a move exits where an operand lies wholly in the page of devices.
 pub fn named(regs: &Regs, ram: &Ram, insn: &Insn) -> Option<Access>
     ensures value { option_map One result ≡ asked_apart insn.now (vcpu regs.now ram.now) }
     ensures lawful { IfSome result IsLawfulAccess }
 {
     if is_string(insn) {
         named_element(regs, ram, insn)
+    } else if is_move(insn) {
+        named_move(regs, ram, insn)
     } else {
         named_registers(regs, insn)
     }
@@ -142,7 +145,7 @@ fn place_registers(regs: &mut Regs, ram: &mut Ram, insn: &Insn, values: &Values)
 }
 
 /// Puts the results of the access that an instruction asks in their places, and goes on; of string I/O
-/// those of its next element, and it goes on with the last.
+/// those of its next element, and it goes on with the last; of MMIO what [`extend`] gives.
 #[inline(always)]
 pub fn place(regs: &mut Regs, ram: &mut Ram, insn: &Insn, values: &Values)
     requires asked { IsSome (asked_apart insn.now (vcpu regs.old ram.old)) }
@@ -150,6 +153,8 @@ pub fn place(regs: &mut Regs, ram: &mut Ram, insn: &Insn, values: &Values)
 {
     if is_string(insn) {
         place_element(regs, ram, insn, values)
+    } else if is_move(insn) {
+        place_move(regs, ram, insn, values)
     } else {
         place_registers(regs, ram, insn, values)
     }

@@ -6,7 +6,8 @@
 //!
 //! The event table: `specs/Rows.antt` has a row for each event, with what the host is shown and what comes
 //! back, and `specs/Events.antt` reads it: which event an instruction asks, and where its results go.
-//! `specs/Elements.antt` has string I/O, whose elements are asked one by one or together as a block.
+//! `specs/Elements.antt` has string I/O, whose elements are asked one by one or together as a block, and
+//! `specs/Moves.antt` the moves that reach the page of devices.
 //!
 //! Results: what a guest takes of a reply, how a vCPU ends, and the order of what was asked.
 #![tactic(auto)]
@@ -18,6 +19,9 @@ mod elements;
 mod end;
 mod event;
 mod exits;
+#[cfg(test)]
+mod move_tests;
+mod moves;
 mod outcome;
 mod places;
 mod raising;
@@ -33,11 +37,12 @@ pub use elements::{is_input, is_string, left, next_address, pointer, port_size};
 pub use end::{End, Reason};
 pub use event::Event;
 pub use exits::{is_event, named, place};
+pub use moves::{extend, is_move, named_move, sign_extended};
 pub use outcome::{Outcome, Reply};
 pub use places::{Place, find, following, load, store};
 pub use raising::raise;
 pub use row::{
     Kind, Registers, Results, Row, Shows, access_of, bytes_back, kind_of, kind_of_block,
-    kind_of_event, registers_of, row_of,
+    kind_of_event, registers_of, row_of, vc_code,
 };
 pub use turn::{Entry, Finished, Turn};

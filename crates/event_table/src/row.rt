@@ -2,10 +2,10 @@
 ghost use Rattle.std.specs.Prelude.{◌≡◌, []};
 ghost use Rattle.x86_base.specs.Widths.{bits_of};
 ghost use Rattle.exit_info.specs.IoInfo.{info_word};
+ghost use Rattle.event_table.specs.Events.{vc_code as code_of_vc};
 ghost use Rattle.event_table.specs.Lawful.{IsKind, IsLawfulAccess, IsOfRegisters};
 ghost use Rattle.event_table.specs.Rows as rows;
 ghost use Rattle.event_table.specs.declared.event.Event.TheVariants.{One};
-ghost use Rattle.exit_info.specs.declared.exit_code.ExitCode.TheVariants as code;
 
 use crate::access::Access;
 use crate::block::Block;
@@ -47,6 +47,16 @@ pub enum Kind {
     Rdpmc,
     Wbinvd,
     Vmmcall,
+    /// A move from the page of devices: its address is SW_EXITINFO1, and its length in bytes SW_EXITINFO2.
+    MmioRead {
+        at: u64,
+        len: u64,
+    },
+    /// A move to the page of devices, with its address and length there too.
+    MmioWrite {
+        at: u64,
+        len: u64,
+    },
 }
 
 /// Which words are shown beside the exit code and infos: CPL (word 25), RAX (63), RCX (97), RDX (98),
@@ -69,9 +79,8 @@ pub struct Results {
     pub b: bool,
 }
 
-/// A row of the table: the exit code, which is also the code of #VC; SW_EXITINFO1 and, as a count,
-/// SW_EXITINFO2; whether SW_SCRATCH names the shared buffer; what is shown and what comes back, and the
-/// width of the results.
+/// A row of the table: the exit code, SW_EXITINFO1, and SW_EXITINFO2, which is a count or a length; whether
+/// SW_SCRATCH names the shared buffer; what is shown and what comes back, and the width of the results.
 #[derive(Clone, Copy, Debug, PartialEq, Eq)]
 pub struct Row {
     pub code: u64,
@@ -103,12 +112,12 @@ pub struct Registers {
 /// The row of a kind by columns, where 1 stands for a word that is shown or comes back; first the kinds
 /// that have their data in the shared buffer.
 macro_rules! rows {
-    ($kind:expr; {$($block:pat => $block_info:expr, $count:expr;)*} $($is:pat =>
+    ($kind:expr; {$($buffered:pat => $buffered_code:ident, $buffered_info:expr, $count:expr;)*} $($is:pat =>
         $cpl:literal $a:literal $c:literal $d:literal $xcr:literal,
         $ra:literal $rc:literal $rd:literal $rb:literal,
         $code:ident, $width:expr, $info:expr;)*) => {
         match $kind {
-            $($block => buffer_row($block_info, $count),)*
+            $($buffered => buffer_row(ExitCode::$buffered_code, $buffered_info, $count),)*
             $($is => Row {
                 code: ExitCode::$code.write(),
                 info: $info,
@@ -190,13 +199,13 @@ fn string_io_info(port: u16, size: u8, rep: bool, input: bool) -> u64
     info.write()
 }
 
-/// The row of port I/O with its data in the shared buffer.
+/// The row of an event with its data in the shared buffer.
 #[inline(always)]
-fn buffer_row(info: u64, count: u64) -> Row
-    ensures value { result ≡ rows.buffer_row code.Io info count }
+fn buffer_row(code: ExitCode, info: u64, count: u64) -> Row
+    ensures value { result ≡ rows.buffer_row code info count }
 {
     Row {
-        code: ExitCode::Io.write(),
+        code: code.write(),
         info,
         count,
         scratch: true,
@@ -224,9 +233,11 @@ pub fn row_of(kind: &Kind) -> Row
 {
     rows!(*kind;
         {
-            // in the shared buffer                  SW_EXITINFO1                            SW_EXITINFO2
-            Kind::Outs { port, size, rep, count } => string_io_info(port, size, rep, false), count;
-            Kind::Ins { port, size, rep, count }  => string_io_info(port, size, rep, true),  count;
+            // in the shared buffer                  code       SW_EXITINFO1                            SW_EXITINFO2
+            Kind::Outs { port, size, rep, count } => Io,        string_io_info(port, size, rep, false), count;
+            Kind::Ins { port, size, rep, count }  => Io,        string_io_info(port, size, rep, true),  count;
+            Kind::MmioRead { at, len }            => MmioRead,  at,                                     len;
+            Kind::MmioWrite { at, len }           => MmioWrite, at,                                     len;
         }
         //                          shown to the host    coming back      code     width           SW_EXITINFO1
         //                          CPL RAX RCX RDX XCR0 RAX RCX RDX RBX
@@ -258,6 +269,14 @@ pub fn kind_of(access: &Access) -> Kind
         Access::Rdpmc { .. } => Kind::Rdpmc,
         Access::Wbinvd => Kind::Wbinvd,
         Access::Vmmcall { .. } => Kind::Vmmcall,
+        Access::MmioRead { at, len } => Kind::MmioRead {
+            at,
+            len: u64::from(len),
+        },
+        Access::MmioWrite { at, len, .. } => Kind::MmioWrite {
+            at,
+            len: u64::from(len),
+        },
     }
 }
 
@@ -299,6 +318,17 @@ pub fn kind_of_event(event: &Event) -> Kind
     }
 }
 
+/// The code with which #VC is raised for an event: that of its intercept, which the row has too, and for
+/// MMIO that of a nested page fault (APM volume 2, appendix C).
+pub fn vc_code(event: &Event) -> u64
+    ensures value { result ≡ code_of_vc event.now }
+{
+    match event {
+        Event::One(Access::MmioRead { .. } | Access::MmioWrite { .. }) => 0x400,
+        _ => row_of(&kind_of_event(event)).code,
+    }
+}
+
 /// How many bytes come back in the shared buffer.
 pub fn bytes_back(kind: &Kind) -> u16
     requires kind { IsKind kind.now }
@@ -306,6 +336,7 @@ pub fn bytes_back(kind: &Kind) -> u16
 {
     match *kind {
         Kind::Ins { size, count, .. } => count as u16 * u16::from(size),
+        Kind::MmioRead { len, .. } => len as u16,
         _ => 0,
     }
 }
@@ -322,6 +353,7 @@ pub fn registers_of(access: &Access) -> Registers
         Access::Rdpmc { index } => (0, u64::from(index), 0),
         Access::Vmmcall { rax } => (rax, 0, 0),
         Access::In { .. } | Access::Rdtsc | Access::Rdtscp | Access::Wbinvd => (0, 0, 0),
+        Access::MmioRead { .. } | Access::MmioWrite { .. } => (0, 0, 0),
     };
     Registers { a, c, d }
 }
@@ -365,5 +397,6 @@ pub fn access_of(kind: &Kind, registers: &Registers) -> Access
         Kind::Wbinvd => Access::Wbinvd,
         Kind::Vmmcall => Access::Vmmcall { rax: a },
         Kind::Outs { .. } | Kind::Ins { .. } => unreachable!(),
+        Kind::MmioRead { .. } | Kind::MmioWrite { .. } => unreachable!(),
     }
 }

@@ -7,12 +7,12 @@ use std::test::Fail;
 use x86_base::{Flags, Insn, Op, Operand, Reg, Regs, Stop, Width};
 
 /// An image of nine bytes of code over one page, with handlers of #UD and #GP at these addresses.
-fn image(alloc: Global, ud: u32, gp: u32) -> Result<Image, Fail> {
+pub fn image(alloc: Global, ud: u32, gp: u32) -> Result<Image, Fail> {
     Ok(sample_image(alloc, &[0; 9], ud, gp)?)
 }
 
 /// Registers with RAX, RCX, RDX and RSP, at address 5.
-fn regs(a: u64, c: u64, d: u64, rsp: u64) -> Regs {
+pub fn regs(a: u64, c: u64, d: u64, rsp: u64) -> Regs {
     let mut gpr = [0x7777_7777_7777_7777; 16];
     gpr[0] = a;
     gpr[1] = c;
@@ -26,7 +26,7 @@ fn regs(a: u64, c: u64, d: u64, rsp: u64) -> Regs {
 }
 
 /// An instruction of two bytes.
-fn insn(op: Op, width: Width, dst: Operand, src: Operand) -> Insn {
+pub fn insn(op: Op, width: Width, dst: Operand, src: Operand) -> Insn {
     Insn {
         op,
         width,
@@ -38,19 +38,19 @@ fn insn(op: Op, width: Width, dst: Operand, src: Operand) -> Insn {
     }
 }
 
-const A: u64 = 0x1122_3344_5566_7788;
+pub const A: u64 = 0x1122_3344_5566_7788;
 
-const C: u64 = 0x99AA_BBCC_DDEE_FF00;
+pub const C: u64 = 0x99AA_BBCC_DDEE_FF00;
 
-const D: u64 = 0x0123_4567_89AB_03F8;
+pub const D: u64 = 0x0123_4567_89AB_03F8;
 
-const RAX: Operand = Operand::Whole(Reg::Rax);
+pub const RAX: Operand = Operand::Whole(Reg::Rax);
 
-const RDX: Operand = Operand::Whole(Reg::Rdx);
+pub const RDX: Operand = Operand::Whole(Reg::Rdx);
 
 const NONE: Operand = Operand::Absent;
 
-fn out(port: u16, size: u8, value: u32) -> Access {
+pub fn out(port: u16, size: u8, value: u32) -> Access {
     Access::Out { port, size, value }
 }
 

@@ -17,7 +17,7 @@ mod rules;
 pub use fault::{ImageError, ImageFault};
 pub use header::MOST_VCPUS;
 pub use image::Image;
-pub use number::read_number;
+pub use number::{read_number, write_number};
 pub use ram::{OutOfRam, Ram, RamFault};
 
 #[cfg(test)]

@@ -7,6 +7,7 @@ use Rattle.event_table.specs.declared.places.Place.TheVariants.{Bytes}
 use Rattle.event_table.specs.declared.row.Kind.{Kind}
 use Rattle.event_table.specs.Elements.{block_of, can_move, element_of, element_width, is_input, is_string}
 use Rattle.event_table.specs.Events.{asked_apart, asked_by, event_or, kind_at, port_at}
+use Rattle.event_table.specs.Moves.{is_move}
 use Rattle.event_table.specs.Places.{Vcpu, number, read}
 use Rattle.event_table.specs.Plan.{Plan, Ends, apart, event_asked, setting}
 use Rattle.string_io.proofs.Along.{at_of, left_of}
@@ -29,4 +30,5 @@ event_exactly (Some k) v len = refl
 
 pub asked_exactly : (i : Insn) (v : Vcpu) → is_some (asked_by i v) ≡ is_some (asked_apart i v)
 asked_exactly i v =
-    by_test (is_string i.op) v _ _ _ _ (string_exactly i v) (event_exactly (kind_at i.op i.width (number (map (read v) (port_at i.op i ∷ [])) 0)) v i.len)
+    by_test (is_string i.op) v _ _ _ _ (string_exactly i v)
+    (by_test (is_move i.op) v _ _ _ _ refl (event_exactly (kind_at i.op i.width (number (map (read v) (port_at i.op i ∷ [])) 0)) v i.len))
