@@ -6,13 +6,15 @@ use Rattle.x86_base.specs.Widths.{size_of}
 use Rattle.event_table.specs.declared.end.End.{End}
 use Rattle.event_table.specs.declared.end.End.TheVariants.{Undecoded}
 use Rattle.event_table.specs.declared.outcome.Reply.{Reply}
+use Rattle.event_table.specs.declared.places.Place.{Place}
 use Rattle.event_table.specs.declared.places.Place.TheVariants.{Bytes}
 use Rattle.event_table.specs.declared.row.Kind.{Kind}
 use Rattle.event_table.specs.Elements.{block_of, can_move, element, element_width, elements, is_input, is_string, next_address, numbers_in, taking}
 use Rattle.event_table.specs.Ending.{IsOver}
 use Rattle.event_table.specs.Events.{event_or, kind_at, placed_by, port_at}
+use Rattle.event_table.specs.Moves.{is_from_page, is_move, is_to_page, move_of}
 use Rattle.event_table.specs.Places.{Vcpu, number, read}
-use Rattle.event_table.specs.Plan.{Plan, Ends, Setting, Stepped, Stops, apply, setting, step_answered, stepped}
+use Rattle.event_table.specs.Plan.{Plan, Ends, Setting, Stepped, Stops, address_places, apply, place_at, setting, step_answered, stepped}
 use Rattle.string_io.proofs.Along.{at_of, left_of}
 use Rattle.guest_interp.specs.Stepping.{Counted, insn_at, exit_by, plan_by, results_of, step_of, stepped_by, stop_after, next_of}
 
@@ -58,10 +60,21 @@ pub exit_over : (k : Option Kind) (s : Setting) (v : Vcpu) (reply : Reply) → I
 exit_over None s v reply = tt
 exit_over (Some k) s v reply = tt
 
+-- the operands of a move
+abbrev pub dst_of : Insn → Setting → Vcpu → Place
+dst_of i s v = place_at s.next i.width i.dst (map (read v) (address_places i.dst))
+
+abbrev pub src_of : Insn → Setting → Vcpu → Place
+src_of i s v = place_at s.next i.source_width i.src (map (read v) (address_places i.src))
+
+pub paged_over : (i : Insn) (s : Setting) (v : Vcpu) (reply : Reply) → IsOver (step_answered reply v (move_of i s (Ends Undecoded)))
+paged_over i s v reply = over_if (is_to_page s (dst_of i s v) (src_of i s v)) v reply _ _ tt (over_if (is_from_page s (dst_of i s v) (src_of i s v)) v reply _ _ tt tt)
+
 answer_over : (r : Result Insn End) (v : Vcpu) (reply : Reply) → IsOver (step_answered reply v (exit_by r v))
 answer_over (Ok i) v reply =
     over_if (is_string i.op) v reply _ _ (string_over i v reply)
-    (exit_over (kind_at i.op i.width (number (map (read v) (port_at i.op i ∷ [])) 0)) (setting v i.len) v reply)
+    (over_if (is_move i.op) v reply _ _ (paged_over i (setting v i.len) v reply)
+    (exit_over (kind_at i.op i.width (number (map (read v) (port_at i.op i ∷ [])) 0)) (setting v i.len) v reply))
 answer_over (Err end) v reply = tt
 
 -- an answered event is over: nothing more is asked

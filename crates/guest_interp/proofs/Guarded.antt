@@ -23,11 +23,12 @@ use Rattle.event_table.specs.declared.row.Kind.{Kind}
 use Rattle.event_table.specs.Ending.{IsOwnEnd}
 use Rattle.event_table.specs.Elements.{block_of, can_move, counter, element_of, element_width, is_input, is_string, movable, next_address, numbers_in, taking}
 use Rattle.event_table.specs.Events.{event_or, exit_of, event_plan, kind_at, place_if}
+use Rattle.event_table.specs.Moves.{is_device, is_from_page, is_move, is_to_page, move_of}
 use Rattle.event_table.specs.Places.{Value, Number, number, is_readable, is_writable}
 use Rattle.event_table.specs.Plan.{Plan, Ends, Next, Then, Looks, Asks, Setting, place_at, if_readable, if_writable, place_in}
 use Rattle.event_table.specs.Raising.{raise_of, frame_size, handler_of, pushed}
 use Rattle.event_table.specs.Rows.{event_row}
-use Rattle.guest_interp.specs.Table.{arithmetic_to, below, flags_written, is_no_shift, moves_to, moves_where, alu_op_of, other_of, private_by, private_of, pushes, register_of, result_place, sets_where, widen, with_sign}
+use Rattle.guest_interp.specs.Table.{arithmetic_to, below, flags_written, is_no_shift, moves_to, moves_where, alu_op_of, other_of, private_by, private_of, pushes, register_of, result_place, sets_where, move, with_sign}
 use Rattle.guest_interp.specs.Stepping.{plan_of}
 use Rattle.guest_interp.specs.Guarding.{Spares, SparesAll, KeepsCode, CodeStays}
 
@@ -85,8 +86,8 @@ guards_arithmetic i s operation dst src =
 guards_moves : (s : Setting) (dst src : Place) (extend : ℕ → ℕ) → Guards s.code (moves_to s dst src extend)
 guards_moves s dst src extend = guards_readable s src _ (guards_writable s dst _ (λ w. ((w, tt), tt, tt)))
 
-guards_widen : (i : Insn) (s : Setting) (extend : ℕ → ℕ) → Guards s.code (widen i s extend)
-guards_widen i s extend = λ to from. guards_moves s (place_at s.next i.width i.dst to) (place_at s.next i.source_width i.src from) extend
+guards_move : (i : Insn) (s : Setting) (extend : ℕ → ℕ) → Guards s.code (move i s extend)
+guards_move i s extend = λ to from. guards_moves s (place_at s.next i.width i.dst to) (place_at s.next i.source_width i.src from) extend
 
 guards_where : (s : Setting) (condition : ℕ) (dst src : Place) → Guards s.code (moves_where s condition dst src)
 guards_where s condition dst src = guards_readable s dst _ (guards_readable s src _ (guards_writable s dst _ (λ w. ((w, tt), tt, tt))))
@@ -102,10 +103,10 @@ spares_register code (Whole reg) = tt
 spares_register code _ = tt
 
 guards_other : (o : Op) (i : Insn) (s : Setting) → Guards s.code (other_of o i s)
-guards_other op.Mov i s = λ to from. guards_moves s (place_at s.next i.width i.dst to) (place_at s.next i.width i.src from) (λ value. value)
-guards_other op.Movzx i s = guards_widen i s (λ value. value)
-guards_other op.Movsx i s = guards_widen i s (with_sign i)
-guards_other op.Movsxd i s = guards_widen i s (with_sign i)
+guards_other op.Mov i s = guards_move i s (λ value. value)
+guards_other op.Movzx i s = guards_move i s (λ value. value)
+guards_other op.Movsx i s = guards_move i s (with_sign i)
+guards_other op.Movsxd i s = guards_move i s (with_sign i)
 guards_other op.Lea i s = λ to. guards_writable s (place_at s.next i.width i.dst to) _ (λ w. ((w, tt), tt, tt))
 guards_other op.Push i s = λ rsp from. guards_push s (below (number rsp 0) 8) (place_at s.next B64 i.dst from)
 guards_other op.Pop i s = λ rsp. guards_readable s (Bytes (number rsp 0) B64) _ ((spares_register s.code i.dst, tt), (tt, tt), tt)
@@ -175,10 +176,22 @@ guards_block i s = λ seen.
     (guards_if s.code (can_move (is_input i.op) s (Bytes (number seen 0) (element_width i))) _ _
     (λ can shown reply. guards_taken i s (min (number seen 1) (2032 / size_of (element_width i))) (number seen 0) (number seen 1) reply.bytes) tt)
 
+-- a destination of a move from the page can be written
+spares_from : (s : Setting) (dst src : Place) → is_from_page s dst src ≡ true → Spares s.code dst
+spares_from s dst src from = spares_writable s.ram s.code dst (and_parts (is_device s.ram src) (is_writable s.ram s.code dst) from).1
+
+guards_paged : (i : Insn) (s : Setting) (private : Plan) → Guards s.code private → Guards s.code (move_of i s private)
+guards_paged i s private h = λ to from.
+    let dst = place_at s.next i.width i.dst to in
+    let src = place_at s.next i.source_width i.src from in
+    guards_if s.code (is_to_page s dst src) _ _ (λ _ shown reply. (tt, tt, tt))
+    (guards_if s.code (is_from_page s dst src) _ _ (λ from reply. (tt, (spares_from s dst src from, tt), tt)) h)
+
 guards_plan : (i : Insn) (s : Setting) (private : Plan) → Guards s.code private → Guards s.code (event_plan i s private)
 guards_plan i s private h =
     guards_if s.code (is_string i.op) _ _ (λ _. guards_if s.code s.alone _ _ (λ _. guards_element i s) (guards_block i s))
-    (λ seen. guards_event s private (kind_at i.op i.width (number seen 0)) h)
+    (guards_if s.code (is_move i.op) _ _ (λ _. guards_paged i s private h)
+    (λ seen. guards_event s private (kind_at i.op i.width (number seen 0)) h))
 
 -- the frame of an exception
 frame_room : (t frame ram code : ℕ) → frame < 2 ^ 64 → ram < 2 ^ 64 → (nat_le ((t + 2 ^ 64 - frame) % 2 ^ 64 + frame) ram && not (nat_lt ((t + 2 ^ 64 - frame) % 2 ^ 64) code)) ≡ true → code + frame ≤ t

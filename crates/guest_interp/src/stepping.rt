@@ -1,12 +1,14 @@
 // The private step.
-ghost use Rattle.std.specs.Prelude.{◌≡◌, true, false, is_some, IfSome, None, OnErr};
+ghost use Rattle.std.specs.Prelude.{◌≡◌, true, false, if◌then◌else◌, is_some, IfSome, IsTrue, None, Some, OnErr};
 ghost use Rattle.x86_base.specs.Spelling.{IsSpelled};
 ghost use Rattle.insn_decode.specs.Laws.{HasCondition};
 ghost use Rattle.event_table.specs.Elements.{is_string as is_string_op};
 ghost use Rattle.event_table.specs.Events.{asked_apart, asked_by, kind_at};
 ghost use Rattle.event_table.specs.Lawful.{IsLawfulEvent};
+ghost use Rattle.event_table.specs.Moves.{is_move as is_move_op, move_of};
 ghost use Rattle.event_table.specs.Places.{vcpu};
-ghost use Rattle.event_table.specs.Plan.{Does};
+ghost use Rattle.event_table.specs.Plan.{Does, Ends, Exits, event_asked, setting};
+ghost use Rattle.event_table.specs.declared.end.End.TheVariants.{Undecoded};
 ghost use Rattle.guest_interp.specs.Guest.{IsUntouched, asked_in, tried};
 ghost use Rattle.guest_interp.specs.Stepping.{Comes, is_vc, stepped_by};
 ghost use Rattle.guest_interp.specs.Table.{alu_op_of, other_of, private_of};
@@ -14,11 +16,12 @@ ghost use Rattle.guest_interp.specs.Table.{alu_op_of, other_of, private_of};
 use crate::calculation::arithmetic;
 use crate::conditions::{move_where, set_where};
 use crate::jumps::{cmc, jmp, jump_if, nop, put_carry, put_direction};
-use crate::moves::{lea, mov, movsx, movzx};
+use crate::moves::{lea, mov, movsx};
 use crate::stack::{call, iretq, pop, push, ret};
 use alu_ops::AluOp;
 use event_table::{
-    Access, Event, following, is_event, is_string, kind_of_event, left, named, pointer, row_of,
+    Access, Event, following, is_event, is_move, is_string, left, named, named_move, pointer,
+    vc_code,
 };
 use image_file::Ram;
 use insn_decode::laws::conditions;
@@ -82,8 +85,7 @@ fn private_other(regs: &mut Regs, ram: &mut Ram, insn: &Insn) -> Result<(), Stop
     ensures kept { OnErr result (vcpu regs.new ram.new ≡ vcpu regs.old ram.old) }
 {
     match insn.op {
-        Op::Mov => mov(regs, ram, insn)?,
-        Op::Movzx => movzx(regs, ram, insn)?,
+        Op::Mov | Op::Movzx => mov(regs, ram, insn)?,
         Op::Movsx | Op::Movsxd => movsx(regs, ram, insn)?,
         Op::Lea => lea(regs, ram, insn)?,
         Op::Push => push(regs, ram, insn)?,
@@ -143,6 +145,66 @@ fn string(regs: &mut Regs, ram: &Ram, insn: &Insn, event: &mut Event) -> Result<
     Err(Stop::BadAddress(regs.get(pointer(insn))))
 }
 
+/// Whether an instruction is a move that reaches the page of devices. Then it asks for the access that
+/// is in the event's place.
+#[inline(never)]
+fn reaches_page(regs: &Regs, ram: &Ram, insn: &Insn, event: &mut Event) -> bool
+    ensures moves { IsTrue result → is_move_op insn.now.op ≡ true }
+    ensures named { let v = vcpu regs.now ram.now in is_move_op insn.now.op ≡ true →
+        (if result then Some event.new else None) ≡
+        event_asked v (move_of insn.now (setting v insn.now.len) (Ends Undecoded)) }
+    ensures lawful { IsTrue result → IsLawfulEvent event.new }
+{
+    if is_move(insn)
+        && let Some(access) = named_move(regs, ram, insn)
+    {
+        event.set_access(access);
+        return true;
+    }
+    false
+}
+
+/// An instruction that has no event of registers: it is private, or a move that reaches the page of
+/// devices.
+#[inline(always)]
+fn attempt_private(
+    regs: &mut Regs,
+    ram: &mut Ram,
+    insn: &Insn,
+    event: &mut Event,
+) -> Result<Tried, Stop>
+    requires condition { HasCondition insn.now.op }
+    requires string { is_string_op insn.now.op ≡ false }
+    requires private { kind_at insn.now.op insn.now.width 0 ≡ None }
+    ensures done { tried result event.new (vcpu regs.new ram.new) ≡ stepped_by insn.now (vcpu regs.old ram.old) }
+    ensures named { asked_in result event.new ≡ asked_by insn.now (vcpu regs.old ram.old) }
+    ensures lawful { IfSome (asked_in result event.new) IsLawfulEvent }
+    ensures untouched { IsUntouched result (vcpu regs.old ram.old) (vcpu regs.new ram.new) }
+{
+    // What lies in RAM is private, so that no move there is tested for the page.
+    let Err(stop) = private(regs, ram, insn) else {
+        return Ok(Tried::Over);
+    };
+    if reaches_page(regs, ram, insn, event) {
+        return Ok(Tried::Asks);
+    }
+    Err(stop)
+}
+
+/// Puts the event of an instruction that exits with its data in registers in its place.
+#[inline(never)]
+fn ask_registers(regs: &Regs, ram: &Ram, insn: &Insn, event: &mut Event)
+    requires event { is_some (kind_at insn.now.op insn.now.width 0) ≡ true }
+    ensures done { let v = vcpu regs.now ram.now in Exits event.new v ≡ stepped_by insn.now v }
+    ensures named { Some event.new ≡ asked_by insn.now (vcpu regs.now ram.now) }
+    ensures lawful { IsLawfulEvent event.new }
+{
+    match named(regs, ram, insn) {
+        Some(access) => event.set_access(access),
+        None => unreachable!(),
+    }
+}
+
 /// What one instruction, which was decoded at RIP, comes to: it is over, asks for the event that is then
 /// in the place handed in, or stops the vCPU. Nothing else changes but where it is over.
 #[inline(always)]
@@ -161,15 +223,12 @@ pub fn attempt(
     if is_string(insn) {
         return string(regs, ram, insn, event);
     }
-    if is_event(insn)
-        && let Some(access) = named(regs, ram, insn)
-    {
-        event.set_access(access);
+    if is_event(insn) {
+        ask_registers(regs, ram, insn, event);
         return Ok(Tried::Asks);
     }
     conditions();
-    private(regs, ram, insn)?;
-    Ok(Tried::Over)
+    attempt_private(regs, ram, insn, event)
 }
 
 /// One instruction, which was decoded at RIP. `Vc` comes exactly where it asks for an event, which is where
@@ -183,7 +242,7 @@ pub fn step(regs: &mut Regs, ram: &mut Ram, insn: &Insn) -> Next
     let mut event = Event::One(Access::Wbinvd);
     match attempt(regs, ram, insn, &mut event) {
         Ok(Tried::Over) => Next::Went,
-        Ok(Tried::Asks) => Next::Vc(row_of(&kind_of_event(&event)).code),
+        Ok(Tried::Asks) => Next::Vc(vc_code(&event)),
         Err(stop) => Next::Ended(stop),
     }
 }

@@ -145,9 +145,10 @@ fn moves_extend_their_sources(rt: HostRuntime) -> Result<(), Fail> {
 
 #[test]
 fn an_operand_outside_ends_the_guest_as_it_was(rt: HostRuntime) -> Result<(), Fail> {
-    // A code, and the address that it ends with: a write of a code byte; an operand that leaves RAM; one in
-    // the page of devices; a push onto code; a compare of a code byte, which reads it alone.
-    let cases: [(&[u8], Option<Stop>); 5] = [
+    // A code, and the address that it ends with: a write of a code byte; an operand that leaves RAM; a move
+    // that leaves the page of devices, and a compare in it; a push onto code; a compare of a code byte, which
+    // reads it alone.
+    let cases: [(&[u8], Option<Stop>); 6] = [
         (
             &[0x88, 0x04, 0x25, 6, 0, 0, 0, 0xF4],
             Some(Stop::BadAddress(6)),
@@ -157,7 +158,11 @@ fn an_operand_outside_ends_the_guest_as_it_was(rt: HostRuntime) -> Result<(), Fa
             Some(Stop::BadAddress(0xFFD)),
         ),
         (
-            &[0xB8, 0, 0, 0xB0, 0xFE, 0x8A, 0x00, 0xF4],
+            &[0xB8, 0xFF, 0x0F, 0xB0, 0xFE, 0x66, 0x8B, 0x00, 0xF4],
+            Some(Stop::BadAddress(0xFEB0_0FFF)),
+        ),
+        (
+            &[0xB8, 0, 0, 0xB0, 0xFE, 0x38, 0x00, 0xF4],
             Some(Stop::BadAddress(0xFEB0_0000)),
         ),
         (&[0xBC, 10, 0, 0, 0, 0x53, 0xF4], Some(Stop::BadAddress(2))),

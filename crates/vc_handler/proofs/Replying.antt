@@ -25,7 +25,7 @@ use Rattle.event_table.specs.declared.row.Results.{Results}
 use Rattle.event_table.specs.declared.access.Values.{Values}
 use Rattle.event_table.specs.Buffer.{bytes_from, words_for}
 use Rattle.string_io.specs.Buffers.{loaded_bytes, loading_words}
-use Rattle.vc_handler.specs.Accept.{accepting, accepting_by, outcome_done, loaded_exception, has_all, load_if, outcome_requested, loaded_results, results_by, loaded_values}
+use Rattle.vc_handler.specs.Accept.{accepting, accepting_by, event_done, loaded_exception, has_all, load_if, outcome_requested, loaded_results, results_by, loaded_values}
 use Rattle.vc_handler.specs.ReplyTable as reply
 use Rattle.vc_handler.specs.ReplyTable.{bitmap_loaded, bitmap_words, buffer_loaded, bytes_of_event, count_from, loads, number_if, result_words, results_of_event, status_of, taken_by, value_loaded, values_loaded}
 
@@ -63,11 +63,11 @@ of_false : (b : Bool) (p q : Program Outcome) (words : List ℕ) → b ≡ false
 of_false b p q words is = ap (λ (x : Bool). of (if x then p else q) words) is
 
 -- the status, and what comes by it
-status_by : (r : Results) (count : ℕ) (words : List ℕ) (t : Taken Outcome) →
-    of (if status_of words == 0 then loaded_results r count else if status_of words == 1 then loaded_exception else pure (Terminate (BadStatus (slice_index words 0)))) (drop 1 words) ≡ t →
-    of (accepting_by r count) words ≡ first (Load 115 (slice_index words 0)) t
+status_by : (r : Results) (count : ℕ) (done : Values → List ℕ → Outcome) (words : List ℕ) (t : Taken Outcome) →
+    of (if status_of words == 0 then loaded_results r count done else if status_of words == 1 then loaded_exception else pure (Terminate (BadStatus (slice_index words 0)))) (drop 1 words) ≡ t →
+    of (accepting_by r count done) words ≡ first (Load 115 (slice_index words 0)) t
 unfolding listen ◌>>=◌
-status_by r count words t is = ap (λ (x : Taken Outcome). first (Load 115 (slice_index words 0)) x) is
+status_by r count done words t is = ap (λ (x : Taken Outcome). first (Load 115 (slice_index words 0)) x) is
 
 -- the words of the bitmap, and what comes with them
 bitmap_by : (low high : Bool) (k : Bitmap → Program Outcome) (words : List ℕ) →
@@ -197,33 +197,33 @@ buffer_all false false false true ms words = refl
 buffer_all false false false false ms words = refl
 
 -- what the results and the bytes come to, over all that was loaded
-done_with : (r : Results) (count n : ℕ) (words : List ℕ) → let ns = up_to_results r in
-    outcome_done (values_loaded (loads ns words)) (take count (bytes_from (words_heard n (left_after ns words))))
-    ≡ reply.results_loaded count (loads (ns ++ count_from 256 n) words)
-done_with r count n words =
+done_with : (r : Results) (count : ℕ) (done : Values → List ℕ → Outcome) (n : ℕ) (words : List ℕ) → let ns = up_to_results r in
+    done (values_loaded (loads ns words)) (take count (bytes_from (words_heard n (left_after ns words))))
+    ≡ reply.results_with count done (loads (ns ++ count_from 256 n) words)
+done_with r count done n words =
     let ns = up_to_results r in
     let heard = buffer_all r.a r.c r.d r.b (count_from 256 n) words ∙ heard_loaded 256 n (left_after ns words) (omega arith) in
-    ap (λ (v : Values). outcome_done v (take count (bytes_from (words_heard n (left_after ns words))))) (sym (values_before n ns words))
-    ∙ ap (λ (ws : List ℕ). outcome_done (values_loaded (loads (ns ++ count_from 256 n) words)) (take count (bytes_from ws))) (sym heard)
+    ap (λ (v : Values). done v (take count (bytes_from (words_heard n (left_after ns words))))) (sym (values_before n ns words))
+    ∙ ap (λ (ws : List ℕ). done (values_loaded (loads (ns ++ count_from 256 n) words)) (take count (bytes_from ws))) (sym heard)
 
 abbrev taken : List Item → Outcome → List ℕ → Taken Outcome
 taken items outcome rest = record { items = items; value = outcome; rest = rest }
 
-done_tail : (r : Results) (count : ℕ) (words : List ℕ) → let ns = up_to_results r in
-    before (loads ns words) (of (loaded_bytes count >>= (λ bytes. pure (outcome_done (values_loaded (loads ns words)) bytes))) (left_after ns words))
-    ≡ stepped (ns ++ count_from 256 (words_for count)) (reply.results_loaded count) words
+done_tail : (r : Results) (count : ℕ) (done : Values → List ℕ → Outcome) (words : List ℕ) → let ns = up_to_results r in
+    before (loads ns words) (of (loaded_bytes count >>= (λ bytes. pure (done (values_loaded (loads ns words)) bytes))) (left_after ns words))
+    ≡ stepped (ns ++ count_from 256 (words_for count)) (reply.results_with count done) words
 unfolding listen ◌>>=◌
-done_tail r count words =
+done_tail r count done words =
     let ns = up_to_results r in
     let n = words_for count in
     let ms = count_from 256 n in
     let left = left_after ns words in
-    let last = outcome_done (values_loaded (loads ns words)) (take count (bytes_from (words_heard n left))) in
-    ap (λ (t : Taken Outcome). before (loads ns words) t) (bytes_by n 256 (λ ws. pure (take count (bytes_from ws))) (λ bytes. pure (outcome_done (values_loaded (loads ns words)) bytes)) left)
+    let last = done (values_loaded (loads ns words)) (take count (bytes_from (words_heard n left))) in
+    ap (λ (t : Taken Outcome). before (loads ns words) t) (bytes_by n 256 (λ ws. pure (take count (bytes_from ws))) (λ bytes. pure (done (values_loaded (loads ns words)) bytes)) left)
     ∙ ap (λ (items : List Item). taken (loads ns words ++ items) last (left_after ms left)) (append-nil (loads ms left))
     ∙ ap (λ (items : List Item). taken items last (left_after ms left)) (sym (loads_append ns ms words))
     ∙ ap (λ (rest : List ℕ). taken (loads (ns ++ ms) words) last rest) (sym (left_append ns ms words))
-    ∙ ap (λ (o : Outcome). taken (loads (ns ++ ms) words) o (left_after (ns ++ ms) words)) (done_with r count n words)
+    ∙ ap (λ (o : Outcome). taken (loads (ns ++ ms) words) o (left_after (ns ++ ms) words)) (done_with r count done n words)
 
 missing_all : (a c d b : Bool) (words : List ℕ) →
     ended (results_if a c d b) words
@@ -244,53 +244,53 @@ bitmap_behind : (r : Results) (words : List ℕ) →
     bitmap_loaded (loads (115 ∷ bitmap_words r) words) ≡ bitmap_loaded (loads (bitmap_words r) (drop 1 words))
 bitmap_behind r words = refl
 
-zero_by : (r : Results) (count : ℕ) (words : List ℕ) → status_of words ≡ 0 →
-    of (accepting_by r count) words
-    ≡ ended r words (of (results_by r count (bitmap_loaded (loads (bitmap_words r) (drop 1 words)))) (left_after (bitmap_words r) (drop 1 words)))
-zero_by r count words is =
+zero_by : (r : Results) (count : ℕ) (done : Values → List ℕ → Outcome) (words : List ℕ) → status_of words ≡ 0 →
+    of (accepting_by r count done) words
+    ≡ ended r words (of (results_by r count done (bitmap_loaded (loads (bitmap_words r) (drop 1 words)))) (left_after (bitmap_words r) (drop 1 words)))
+zero_by r count done words is =
     let fine : (status_of words == 0) ≡ true = grind (arith, common_steps) in
-    status_by r count words _ (of_true (status_of words == 0) (loaded_results r count) _ (drop 1 words) fine ∙ bitmap_by r.a (r.c || r.d || r.b) (results_by r count) (drop 1 words))
+    status_by r count done words _ (of_true (status_of words == 0) (loaded_results r count done) _ (drop 1 words) fine ∙ bitmap_by r.a (r.c || r.d || r.b) (results_by r count done) (drop 1 words))
 
-done_by : (r : Results) (count : ℕ) (words : List ℕ) → status_of words ≡ 0 →
+done_by : (r : Results) (count : ℕ) (done : Values → List ℕ → Outcome) (words : List ℕ) → status_of words ≡ 0 →
     list_all (λ n. has_bit (bitmap_loaded (loads (115 ∷ bitmap_words r) words)) n) (result_words r) ≡ true →
-    of (accepting_by r count) words ≡ taken_by (up_to_results r ++ count_from 256 (words_for count)) (reply.results_loaded count) words
-done_by r count words is has =
+    of (accepting_by r count done) words ≡ taken_by (up_to_results r ++ count_from 256 (words_for count)) (reply.results_with count done) words
+done_by r count done words is has =
     let b = bitmap_loaded (loads (bitmap_words r) (drop 1 words)) in
-    zero_by r count words is
+    zero_by r count done words is
     ∙ ap (λ (t : Taken Outcome). ended r words t) (of_true (has_all r b) _ _ _ (sym (bits_by r b) ∙ has))
-    ∙ values_all r.a r.c r.d r.b (λ v. loaded_bytes count >>= (λ bytes. pure (outcome_done v bytes))) words
-    ∙ done_tail r count words
-    ∙ dropped (up_to_results r ++ count_from 256 (words_for count)) (reply.results_loaded count) words
+    ∙ values_all r.a r.c r.d r.b (λ v. loaded_bytes count >>= (λ bytes. pure (done v bytes))) words
+    ∙ done_tail r count done words
+    ∙ dropped (up_to_results r ++ count_from 256 (words_for count)) (reply.results_with count done) words
 
-missing_by : (r : Results) (count : ℕ) (words : List ℕ) → status_of words ≡ 0 →
+missing_by : (r : Results) (count : ℕ) (done : Values → List ℕ → Outcome) (words : List ℕ) → status_of words ≡ 0 →
     list_all (λ n. has_bit (bitmap_loaded (loads (115 ∷ bitmap_words r) words)) n) (result_words r) ≡ false →
-    of (accepting_by r count) words ≡ taken_by (115 ∷ bitmap_words r) reply.missing_loaded words
-missing_by r count words is has =
+    of (accepting_by r count done) words ≡ taken_by (115 ∷ bitmap_words r) reply.missing_loaded words
+missing_by r count done words is has =
     let b = bitmap_loaded (loads (bitmap_words r) (drop 1 words)) in
-    zero_by r count words is
+    zero_by r count done words is
     ∙ ap (λ (t : Taken Outcome). ended r words t) (of_false (has_all r b) _ _ _ (sym (bits_by r b) ∙ has))
     ∙ missing_all r.a r.c r.d r.b words
     ∙ dropped (115 ∷ bitmap_words r) reply.missing_loaded words
 
-exception_by : (r : Results) (count : ℕ) (words : List ℕ) (asked : Result Inject BadInject) → status_of words ≡ 1 → request_of (slice_index words 1) ≡ asked →
-    of (accepting_by r count) words ≡ taken_by (115 ∷ 116 ∷ []) (λ _. outcome_requested (slice_index words 1) asked) words
+exception_by : (r : Results) (count : ℕ) (done : Values → List ℕ → Outcome) (words : List ℕ) (asked : Result Inject BadInject) → status_of words ≡ 1 → request_of (slice_index words 1) ≡ asked →
+    of (accepting_by r count done) words ≡ taken_by (115 ∷ 116 ∷ []) (λ _. outcome_requested (slice_index words 1) asked) words
 unfolding listen ◌>>=◌
-exception_by r count words asked one is =
+exception_by r count done words asked one is =
     let not_done : (status_of words == 0) ≡ false = grind (arith, common_steps) in
     let asks : (status_of words == 1) ≡ true = grind (arith, common_steps) in
-    status_by r count words _ (of_false (status_of words == 0) _ _ (drop 1 words) not_done ∙ of_true (status_of words == 1) loaded_exception _ (drop 1 words) asks)
+    status_by r count done words _ (of_false (status_of words == 0) _ _ (drop 1 words) not_done ∙ of_true (status_of words == 1) loaded_exception _ (drop 1 words) asks)
     ∙ ap (λ n. first (Load 115 (slice_index words 0)) (first (Load 116 (slice_index (drop 1 words) 0))
     (record { items = []; value = outcome_requested n (request_of n); rest = drop 1 (drop 1 words) }))) (second words)
     ∙ ap (λ (x : Result Inject BadInject). stepped (115 ∷ 116 ∷ []) (λ _. outcome_requested (slice_index words 1) x) words) is
     ∙ dropped (115 ∷ 116 ∷ []) (λ _. outcome_requested (slice_index words 1) asked) words
 
-other_by : (r : Results) (count : ℕ) (words : List ℕ) → 2 ≤ status_of words →
-    of (accepting_by r count) words ≡ taken_by (115 ∷ []) (λ _. Terminate (BadStatus (slice_index words 0))) words
+other_by : (r : Results) (count : ℕ) (done : Values → List ℕ → Outcome) (words : List ℕ) → 2 ≤ status_of words →
+    of (accepting_by r count done) words ≡ taken_by (115 ∷ []) (λ _. Terminate (BadStatus (slice_index words 0))) words
 unfolding listen
-other_by r count words other =
+other_by r count done words other =
     let not_done : (status_of words == 0) ≡ false = grind (arith, common_steps) in
     let asks : (status_of words == 1) ≡ false = grind (arith, common_steps) in
-    status_by r count words _ (of_false (status_of words == 0) _ _ (drop 1 words) not_done ∙ of_false (status_of words == 1) _ _ (drop 1 words) asks)
+    status_by r count done words _ (of_false (status_of words == 0) _ _ (drop 1 words) not_done ∙ of_false (status_of words == 1) _ _ (drop 1 words) asks)
 
 -- seven numbers below the buffer at most, none twice
 abbrev IsFew : List ℕ → Type 0
@@ -360,15 +360,15 @@ length-count_from from zero = refl
 length-count_from from (suc n) = ap (λ k. suc k) (length-count_from (from + 1) n)
 
 -- a reply is loaded by these numbers, none twice, and few beside the words of the buffer
-abbrev LoadsFew : Results → ℕ → List ℕ → Type 0
-LoadsFew r count words =
-    (numbers : List ℕ) × ((of (accepting_by r count) words).items ≡ loads numbers words) × IsDistinct nat_eq numbers × (length numbers ≤ 7 + words_for count)
+abbrev LoadsFew : Results → ℕ → (Values → List ℕ → Outcome) → List ℕ → Type 0
+LoadsFew r count done words =
+    (numbers : List ℕ) × ((of (accepting_by r count done) words).items ≡ loads numbers words) × IsDistinct nat_eq numbers × (length numbers ≤ 7 + words_for count)
 
-items_by : (r : Results) (count : ℕ) (words numbers : List ℕ) (outcome : List Item → Outcome) → of (accepting_by r count) words ≡ taken_by numbers outcome words → IsFew numbers → LoadsFew r count words
-items_by r count words numbers outcome is few = (numbers, ap (λ (t : Taken Outcome). t.items) is, few.0, omega (arith, few.2))
+items_by : (r : Results) (count : ℕ) (done : Values → List ℕ → Outcome) (words numbers : List ℕ) (outcome : List Item → Outcome) → of (accepting_by r count done) words ≡ taken_by numbers outcome words → IsFew numbers → LoadsFew r count done words
+items_by r count done words numbers outcome is few = (numbers, ap (λ (t : Taken Outcome). t.items) is, few.0, omega (arith, few.2))
 
-items_all : (r : Results) (count : ℕ) (words : List ℕ) → of (accepting_by r count) words ≡ taken_by (up_to_results r ++ count_from 256 (words_for count)) (reply.results_loaded count) words → IsFew (up_to_results r) → LoadsFew r count words
-items_all r count words is few =
+items_all : (r : Results) (count : ℕ) (done : Values → List ℕ → Outcome) (words : List ℕ) → of (accepting_by r count done) words ≡ taken_by (up_to_results r ++ count_from 256 (words_for count)) (reply.results_with count done) words → IsFew (up_to_results r) → LoadsFew r count done words
+items_all r count done words is few =
     let n = words_for count in (
       up_to_results r ++ count_from 256 n,
       ap (λ (t : Taken Outcome). t.items) is,
@@ -376,15 +376,15 @@ items_all r count words is few =
       omega (arith, few.2, length-append (up_to_results r) (count_from 256 n), length-count_from 256 n),
     )
 
-loads_zero : (r : Results) (count : ℕ) (words : List ℕ) (has : Bool) → status_of words ≡ 0 →
-    list_all (λ n. has_bit (bitmap_loaded (loads (115 ∷ bitmap_words r) words)) n) (result_words r) ≡ has → LoadsFew r count words
-loads_zero r count words true is has = items_all r count words (done_by r count words is has) (few_all r.a r.c r.d r.b)
-loads_zero r count words false is has = items_by r count words _ reply.missing_loaded (missing_by r count words is has) (few_bitmap r.a r.c r.d r.b)
+loads_zero : (r : Results) (count : ℕ) (done : Values → List ℕ → Outcome) (words : List ℕ) (has : Bool) → status_of words ≡ 0 →
+    list_all (λ n. has_bit (bitmap_loaded (loads (115 ∷ bitmap_words r) words)) n) (result_words r) ≡ has → LoadsFew r count done words
+loads_zero r count done words true is has = items_all r count done words (done_by r count done words is has) (few_all r.a r.c r.d r.b)
+loads_zero r count done words false is has = items_by r count done words _ reply.missing_loaded (missing_by r count done words is has) (few_bitmap r.a r.c r.d r.b)
 
-loads_by : (r : Results) (count : ℕ) (words : List ℕ) (s : ℕ) → status_of words ≡ s → LoadsFew r count words
-loads_by r count words zero is = loads_zero r count words _ is refl
-loads_by r count words (suc zero) is = items_by r count words _ (λ _. outcome_requested (slice_index words 1) (request_of (slice_index words 1))) (exception_by r count words _ is refl) few_exception
-loads_by r count words (suc (suc s)) is = items_by r count words _ (λ _. Terminate (BadStatus (slice_index words 0))) (other_by r count words (omega (arith, is))) few_status
+loads_by : (r : Results) (count : ℕ) (done : Values → List ℕ → Outcome) (words : List ℕ) (s : ℕ) → status_of words ≡ s → LoadsFew r count done words
+loads_by r count done words zero is = loads_zero r count done words _ is refl
+loads_by r count done words (suc zero) is = items_by r count done words _ (λ _. outcome_requested (slice_index words 1) (request_of (slice_index words 1))) (exception_by r count done words _ is refl) few_exception
+loads_by r count done words (suc (suc s)) is = items_by r count done words _ (λ _. Terminate (BadStatus (slice_index words 0))) (other_by r count done words (omega (arith, is))) few_status
 
 loads_numbers : (numbers words : List ℕ) → loads_of (loads numbers words) ≡ numbers
 loads_numbers [] words = refl
@@ -394,12 +394,12 @@ length-loads : (numbers words : List ℕ) → length (loads numbers words) ≡ l
 length-loads [] words = refl
 length-loads (number ∷ numbers) words = ap (λ n. suc n) (length-loads numbers (drop 1 words))
 
-few_loads : (r : Results) (count : ℕ) (items : List Item) (outcome : Outcome) → Follows (listen (accepting_by r count) (λ o. over o)) items outcome →
+few_loads : (r : Results) (count : ℕ) (done : Values → List ℕ → Outcome) (items : List Item) (outcome : Outcome) → Follows (listen (accepting_by r count done) (λ o. over o)) items outcome →
     IsDistinct nat_eq (loads_of items) × (length items ≤ 7 + words_for count)
-few_loads r count items outcome goes =
+few_loads r count done items outcome goes =
     let words = values_of items in
-    let some = loads_by r count words (status_of words) refl in
-    let is = goes_taken (listen (accepting_by r count) (λ o. over o)) items outcome words goes (begins_self words) in
+    let some = loads_by r count done words (status_of words) refl in
+    let is = goes_taken (listen (accepting_by r count done) (λ o. over o)) items outcome words goes (begins_self words) in
     let same : items ≡ loads some.0 words = ap (λ (t : Taken Outcome). t.items) (sym is) ∙ some.1 in (
       subst (λ (numbers : List ℕ). IsDistinct nat_eq numbers) (sym (ap loads_of same ∙ loads_numbers some.0 words)) some.2,
       subst (λ n. n ≤ 7 + words_for count) (sym (ap (λ (is : List Item). length is) same ∙ length-loads some.0 words)) some.3,
@@ -407,25 +407,25 @@ few_loads r count items outcome goes =
 
 -- in whatever follows, no word is loaded twice
 pub loads_once : (event : Event) (items : List Item) (outcome : Outcome) → Follows (listen (accepting event) (λ o. over o)) items outcome → IsDistinct nat_eq (loads_of items)
-loads_once event items outcome goes = (few_loads (results_of_event event) (bytes_of_event event) items outcome goes).0
+loads_once event items outcome goes = (few_loads (results_of_event event) (bytes_of_event event) (event_done event) items outcome goes).0
 
 -- and there are seven items at most, beside those of the buffer
 pub items_few : (event : Event) (items : List Item) (outcome : Outcome) → Follows (listen (accepting event) (λ o. over o)) items outcome → length items ≤ 7 + words_for (bytes_of_event event)
-items_few event items outcome goes = (few_loads (results_of_event event) (bytes_of_event event) items outcome goes).1
+items_few event items outcome goes = (few_loads (results_of_event event) (bytes_of_event event) (event_done event) items outcome goes).1
 
 -- the cases, of an event
 pub done_is : (event : Event) (words : List ℕ) → status_of words ≡ 0 → reply.has_results event words ≡ true →
-    reply.acceptance event words ≡ taken_by (reply.up_to_bytes event) (reply.results_loaded (bytes_of_event event)) words
-done_is event words is has = done_by (results_of_event event) (bytes_of_event event) words is has
+    reply.acceptance event words ≡ taken_by (reply.up_to_bytes event) (reply.results_loaded event) words
+done_is event words is has = done_by (results_of_event event) (bytes_of_event event) (event_done event) words is has
 
 pub missing_is : (event : Event) (words : List ℕ) → status_of words ≡ 0 → reply.has_results event words ≡ false →
     reply.acceptance event words ≡ taken_by (reply.up_to_bitmap event) reply.missing_loaded words
-missing_is event words is has = missing_by (results_of_event event) (bytes_of_event event) words is has
+missing_is event words is has = missing_by (results_of_event event) (bytes_of_event event) (event_done event) words is has
 
 pub exception_is : (event : Event) (words : List ℕ) (asked : Result Inject BadInject) → status_of words ≡ 1 → request_of (slice_index words 1) ≡ asked →
     reply.acceptance event words ≡ taken_by (115 ∷ 116 ∷ []) (λ _. outcome_requested (slice_index words 1) asked) words
-exception_is event words asked one is = exception_by (results_of_event event) (bytes_of_event event) words asked one is
+exception_is event words asked one is = exception_by (results_of_event event) (bytes_of_event event) (event_done event) words asked one is
 
 pub other_is : (event : Event) (words : List ℕ) → 2 ≤ status_of words →
     reply.acceptance event words ≡ taken_by (115 ∷ []) (λ _. Terminate (BadStatus (slice_index words 0))) words
-other_is event words other = other_by (results_of_event event) (bytes_of_event event) words other
+other_is event words other = other_by (results_of_event event) (bytes_of_event event) (event_done event) words other

@@ -1,5 +1,5 @@
 -- The stores of an event, part by part.
-use Rattle.std.proofs.Common.{◌≡◌, ℕ, ◌+◌, Bool, true, List, [], ◌∷◌, ◌++◌, map, refl, sym, ap, ◌∙◌, subst, append_assoc}
+use Rattle.std.proofs.Common.{◌≡◌, ℕ, ◌+◌, Bool, true, List, [], ◌∷◌, ◌++◌, map, sym, ap, ◌∙◌, subst, append_assoc}
 use Rattle.std.proofs.lemmas.List.{map-append}
 use Rattle.page_words.specs.declared.item.Item.{Item}
 use Rattle.page_words.specs.declared.item.Item.TheVariants.{Exit}
@@ -10,9 +10,7 @@ use Rattle.ghcb_layout.specs.declared.bitmap.Bitmap.{Bitmap}
 use Rattle.ghcb_layout.specs.Bitmap.{bitmap_of, word_if}
 use Rattle.event_table.specs.declared.row.Row.{Row}
 use Rattle.event_table.specs.declared.row.Registers.{Registers}
-use Rattle.event_table.specs.declared.access.Access.{Access}
-use Rattle.event_table.specs.declared.access.Access.TheVariants as access
-use Rattle.event_table.specs.Rows.{bytes_back, kind_of, shows_xcr0}
+use Rattle.event_table.specs.Rows.{shows_xcr0}
 use Rattle.event_table.specs.Buffer.{buffer_of}
 use Rattle.vc_handler.specs.Wire.{cleared_words, last_words, shown_words, wire_of}
 
@@ -62,16 +60,3 @@ wire_made r s bytes b e t0 t1 t2 t3 t4 is clears shows stores leaves =
     stores_first t0 t1 t4 cleared_words (shown_words e r s ++ (buffer_of bytes ++ last_words all)) (Exit e ∷ []) clears
     (stores_first t1 t2 t4 (shown_words e r s) (buffer_of bytes ++ last_words all) (Exit e ∷ []) shows
     (stores_first t2 t3 t4 (buffer_of bytes) (last_words all) (Exit e ∷ []) stores left))
-
--- of an access no bytes come back
-pub no_bytes : (a : Access) → bytes_back (kind_of a) ≡ 0
-no_bytes (access.Out port size value) = refl
-no_bytes (access.In port size) = refl
-no_bytes (access.Cpuid leaf sub) = refl
-no_bytes (access.Rdmsr msr) = refl
-no_bytes (access.Wrmsr msr low high) = refl
-no_bytes access.Rdtsc = refl
-no_bytes access.Rdtscp = refl
-no_bytes (access.Rdpmc index) = refl
-no_bytes access.Wbinvd = refl
-no_bytes (access.Vmmcall rax) = refl

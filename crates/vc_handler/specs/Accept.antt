@@ -1,5 +1,5 @@
 -- How a guest takes the reply to an event (AMD 56421, "GHCB Layout", SW_EXITINFO1, SW_EXITINFO2 and VALID_BITMAP).
-use Rattle.std.specs.Prelude.{ℕ, ◌%◌, ◌^◌, ◌==◌, Bool, not, ◌&&◌, ◌||◌, if◌then◌else◌, List, Result, Ok, Err}
+use Rattle.std.specs.Prelude.{ℕ, ◌%◌, ◌^◌, ◌==◌, Bool, not, ◌&&◌, ◌||◌, if◌then◌else◌, List, [], Result, Ok, Err}
 use Rattle.page_words.specs.Programs.{Program, pure, load, ◌>>=◌}
 use Rattle.ghcb_layout.specs.declared.field.Field.TheVariants.{Rax, Rcx, Rdx, Rbx, ExitInfo1, ExitInfo2}
 use Rattle.ghcb_layout.specs.declared.bitmap.Bitmap.{Bitmap}
@@ -8,9 +8,13 @@ use Rattle.ghcb_layout.specs.Field.{word_number}
 use Rattle.exit_info.specs.declared.inject.Inject.{Inject}
 use Rattle.exit_info.specs.declared.inject.BadInject.{BadInject}
 use Rattle.exit_info.specs.Inject.{request_of}
+use Rattle.image_file.specs.Number.{number_at}
+use Rattle.event_table.specs.declared.access.Access.{Access}
+use Rattle.event_table.specs.declared.access.Access.TheVariants.{MmioRead}
 use Rattle.event_table.specs.declared.access.Values.{Values}
 use Rattle.event_table.specs.declared.end.Reason.TheVariants.{BadStatus, BadException, MissingResult}
 use Rattle.event_table.specs.declared.event.Event.{Event}
+use Rattle.event_table.specs.declared.event.Event.TheVariants.{One, Many}
 use Rattle.event_table.specs.declared.outcome.Outcome.{Outcome}
 use Rattle.event_table.specs.declared.outcome.Outcome.TheVariants.{Done, Raise, Terminate}
 use Rattle.event_table.specs.declared.outcome.Reply.{Reply}
@@ -64,18 +68,29 @@ no_values = record { a = 0; c = 0; d = 0; b = 0 }
 abbrev pub outcome_done : Values → List ℕ → Outcome
 outcome_done v bytes = Done (reply_of v bytes)
 
+-- what the results and the bytes that came are: an MMIO read has its number in place of RAX's, and no bytes
+abbrev pub access_done : Access → Values → List ℕ → Outcome
+access_done (MmioRead at len) v bytes = outcome_done (record no_values { a = number_at len 0 bytes }) []
+access_done _ v bytes = outcome_done v bytes
+
+abbrev pub event_done : Event → Values → List ℕ → Outcome
+event_done (One access) v bytes = access_done access v bytes
+event_done (Many block) v bytes = outcome_done v bytes
+
 -- the results and then so many bytes of the shared buffer, where all results have their bits
-abbrev pub results_by : Results → ℕ → Bitmap → Program Outcome
-results_by r count b =
-    if has_all r b then loaded_values r >>= (λ v. loaded_bytes count >>= (λ bytes. pure (outcome_done v bytes)))
+abbrev pub results_by : Results → ℕ → (Values → List ℕ → Outcome) → Bitmap → Program Outcome
+results_by r count done b =
+    if has_all r b then loaded_values r >>= (λ v. loaded_bytes count >>= (λ bytes. pure (done v bytes)))
     else pure (Terminate (MissingResult b.low b.high))
 
-abbrev pub loaded_results : Results → ℕ → Program Outcome
-loaded_results r count = bitmap r >>= (λ b. results_by r count b)
+abbrev pub loaded_results : Results → ℕ → (Values → List ℕ → Outcome) → Program Outcome
+loaded_results r count done = bitmap r >>= (λ b. results_by r count done b)
 
 -- what comes back of an event, once the status says that it is there
 abbrev pub loaded_reply : Event → Program Outcome
-loaded_reply event = loaded_results (event_row (kind_of_event event)).results (bytes_back (kind_of_event event))
+loaded_reply event =
+    let k = kind_of_event event in
+    loaded_results (event_row k).results (bytes_back k) (event_done event)
 
 abbrev pub outcome_requested : ℕ → Result Inject BadInject → Outcome
 outcome_requested word (Ok i) = Raise i.vector i.code
@@ -87,22 +102,24 @@ loaded_exception = do
   word ← load (word_number ExitInfo2)
   pure (outcome_requested word (request_of word))
 
-abbrev pub by_status : Results → ℕ → ℕ → Program Outcome
-by_status r count status =
-    if status % 2 ^ 32 == 0 then loaded_results r count
+abbrev pub by_status : Results → ℕ → (Values → List ℕ → Outcome) → ℕ → Program Outcome
+by_status r count done status =
+    if status % 2 ^ 32 == 0 then loaded_results r count done
     else if status % 2 ^ 32 == 1 then loaded_exception
     else pure (Terminate (BadStatus status))
 
 -- a reply with these results, and so many bytes in the shared buffer
-abbrev pub accepting_by : Results → ℕ → Program Outcome
-accepting_by r count = do
+abbrev pub accepting_by : Results → ℕ → (Values → List ℕ → Outcome) → Program Outcome
+accepting_by r count done = do
   status ← load (word_number ExitInfo1)
-  by_status r count status
+  by_status r count done status
 
 -- The status is the low half of SW_EXITINFO1: 0 says done, and 1 asks for an exception; the guest terminates at any
--- other. A block has no results in registers, so no word of the bitmap is loaded for it.
+-- other. A block and an MMIO read have no results in registers, so no word of the bitmap is loaded for them.
 abbrev pub accepting : Event → Program Outcome
-accepting event = accepting_by (event_row (kind_of_event event)).results (bytes_back (kind_of_event event))
+accepting event =
+    let k = kind_of_event event in
+    accepting_by (event_row k).results (bytes_back k) (event_done event)
 
 -- the outcome by what the reply came to, where the reply itself stands in its place
 abbrev pub outcome_in : Answer → Reply → Outcome

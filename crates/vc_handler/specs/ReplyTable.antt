@@ -13,11 +13,11 @@ use Rattle.event_table.specs.declared.access.Values.{Values}
 use Rattle.event_table.specs.declared.end.Reason.TheVariants.{MissingResult}
 use Rattle.event_table.specs.declared.event.Event.{Event}
 use Rattle.event_table.specs.declared.outcome.Outcome.{Outcome}
-use Rattle.event_table.specs.declared.outcome.Outcome.TheVariants.{Done, Terminate}
+use Rattle.event_table.specs.declared.outcome.Outcome.TheVariants.{Terminate}
 use Rattle.event_table.specs.declared.row.Results.{Results}
 use Rattle.event_table.specs.Buffer.{bytes_from, first_word, words_for}
 use Rattle.event_table.specs.Rows.{bytes_back, event_row, kind_of_event}
-use Rattle.vc_handler.specs.Accept.{accepting}
+use Rattle.vc_handler.specs.Accept.{accepting, event_done}
 
 -- what the acceptance of an event's reply comes to where its loads give these words, and zeros after them: the loads,
 -- the outcome, and the words that are left
@@ -52,7 +52,7 @@ status_of words = slice_index words 0 % 2 ^ 32
 abbrev pub results_of_event : Event → Results
 results_of_event event = (event_row (kind_of_event event)).results
 
--- how many bytes come back in the shared buffer: those of an input block, and else none
+-- how many bytes come back in the shared buffer: those of an input block or of an MMIO read
 abbrev pub bytes_of_event : Event → ℕ
 bytes_of_event event = bytes_back (kind_of_event event)
 
@@ -114,9 +114,12 @@ values_loaded items = record {
   b = value_loaded (word_number Rbx) items;
 }
 
--- with so many bytes of the shared buffer
-abbrev pub results_loaded : ℕ → List Item → Outcome
-results_loaded count items = Done (record { values = values_loaded items; bytes = take count (bytes_from (buffer_loaded items)) })
+-- with so many bytes of the shared buffer, and what these come to
+abbrev pub results_with : ℕ → (Values → List ℕ → Outcome) → List Item → Outcome
+results_with count done items = done (values_loaded items) (take count (bytes_from (buffer_loaded items)))
+
+abbrev pub results_loaded : Event → List Item → Outcome
+results_loaded event items = results_with (bytes_of_event event) (event_done event) items
 
 -- the result bits that are clear, by the bitmap's words
 abbrev pub missing_loaded : List Item → Outcome

@@ -16,15 +16,16 @@ use Rattle.event_table.specs.declared.row.Row.{Row}
 use Rattle.event_table.specs.declared.row.Registers.{Registers}
 use Rattle.event_table.specs.Buffer.{buffer_of}
 use Rattle.event_table.specs.Rows.{event_row, kind_of_event, registers, registers_of, shows_xcr0}
+use Rattle.mmio_access.specs.Shared.{bytes_written}
 
 -- the registers that an event shows: an access has some, and a block has none
 abbrev pub registers_shown : Event → Registers
 registers_shown (One access) = registers_of access
 registers_shown (Many block) = registers 0 0 0
 
--- the bytes that an event shows in the shared buffer: those of an output block
+-- the bytes that an event shows in the shared buffer: those of an MMIO write, or of an output block
 abbrev pub bytes_shown : Event → List ℕ
-bytes_shown (One access) = []
+bytes_shown (One access) = bytes_written access
 bytes_shown (Many block) = block.bytes
 
 -- the words that are shown by a row of a page at an address, each with its value, in the order of the page; SW_SCRATCH

@@ -1,18 +1,21 @@
 // How the words of a reply are taken.
-ghost use Rattle.std.specs.Prelude.{◌≡◌, ◌≤◌, ◌+◌, []};
+ghost use Rattle.std.specs.Prelude.{◌≡◌, ℕ, ◌≤◌, ◌+◌, []};
 ghost use Rattle.page_words.specs.Dialogue.{Reads};
 ghost use Rattle.exit_info.specs.Inject.{request_of};
-ghost use Rattle.event_table.specs.declared.event.Event.TheVariants.{Many};
+ghost use Rattle.image_file.specs.Number.{IsLength};
+ghost use Rattle.event_table.specs.declared.access.Access.TheVariants as access;
+ghost use Rattle.event_table.specs.declared.event.Event.TheVariants.{One, Many};
 ghost use Rattle.event_table.specs.declared.outcome.Outcome.TheVariants.{Done};
 ghost use Rattle.event_table.specs.declared.outcome.Reply.{Reply};
-ghost use Rattle.event_table.specs.Lawful.{IsLawfulBlock, IsLawfulEvent};
+ghost use Rattle.event_table.specs.Lawful.{IsLawfulAccess, IsLawfulBlock, IsLawfulEvent};
 ghost use Rattle.string_io.specs.Buffers.{room_of};
 ghost use Rattle.vc_handler.specs.Accept as accepting;
-ghost use Rattle.vc_handler.specs.Accept.{no_values, outcome_in, reply_of};
+ghost use Rattle.vc_handler.specs.Accept.{no_values, outcome_done, outcome_in, reply_of};
 
-use event_table::{Block, Bytes, Event, Reason, Reply, Results, Values, kind_of, row_of};
+use event_table::{Access, Block, Bytes, Event, Reason, Reply, Results, Values, kind_of, row_of};
 use exit_info::Inject;
 use ghcb_layout::{Bitmap, Field, bit_of, word_of};
+use mmio_access::accept_mmio;
 use page_words::{Page, Word};
 use string_io::accept_block;
 
@@ -104,8 +107,8 @@ fn load_values<P: Page>(page: &mut P, results: &Results) -> Values
 /// has its bit.
 fn take_values<P: Page>(page: &mut P, results: &Results, values: &mut Values) -> Answer
     requires room { 6 ≤ room_of (P.told page.old) }
-    ensures reads { Reads (accepting.loaded_results results.now 0) (outcome_in result (reply_of values.new []))
-        (P.told page.old) (P.told page.new) }
+    ensures reads { Reads (accepting.loaded_results results.now 0 outcome_done)
+        (outcome_in result (reply_of values.new [])) (P.told page.old) (P.told page.new) }
     ensures room { room_of (P.told page.old) ≤ room_of (P.told page.new) + 6 }
 {
     if !has_any(results) {
@@ -133,6 +136,36 @@ fn take_block<P: Page>(page: &mut P, block: &Block, reply: &mut Reply)
     reply.bytes = accept_block(block, page);
 }
 
+/// Takes the number of an MMIO read, once the status says that it is there.
+fn take_number<P: Page>(page: &mut P, len: u8) -> Values
+    requires len { IsLength len }
+    requires room { 1 ≤ room_of (P.told page.old) }
+    ensures reads { (at : ℕ) → Reads (accepting.loaded_reply (One (access.MmioRead at len))) (Done (reply_of result []))
+        (P.told page.old) (P.told page.new) }
+    ensures room { room_of (P.told page.old) ≤ room_of (P.told page.new) + 1 }
+{
+    Values {
+        a: accept_mmio(len, page),
+        ..NO_VALUES
+    }
+}
+
+/// Takes what comes back of an access, once the status says that it is there.
+fn take_access<P: Page>(page: &mut P, access: &Access, values: &mut Values) -> Answer
+    requires lawful { IsLawfulAccess access.now }
+    requires room { 6 ≤ room_of (P.told page.old) }
+    ensures reads { Reads (accepting.loaded_reply (One access.now)) (outcome_in result (reply_of values.new []))
+        (P.told page.old) (P.told page.new) }
+    ensures room { room_of (P.told page.old) ≤ room_of (P.told page.new) + 6 }
+{
+    if let Access::MmioRead { len, .. } = *access {
+        *values = take_number(page, len);
+        return Answer::Done;
+    }
+    let row = row_of(&kind_of(access));
+    take_values(page, &row.results, values)
+}
+
 /// Takes what comes back, once the status says that it is there: the results of an access, or the bytes of
 /// a block.
 fn take_done<P: Page>(page: &mut P, event: &Event, reply: &mut Reply) -> Answer
@@ -145,8 +178,7 @@ fn take_done<P: Page>(page: &mut P, event: &Event, reply: &mut Reply) -> Answer
     match event {
         Event::One(access) => {
             reply.bytes.truncate(0);
-            let row = row_of(&kind_of(access));
-            take_values(page, &row.results, &mut reply.values)
+            take_access(page, access, &mut reply.values)
         }
         Event::Many(block) => {
             take_block(page, block, reply);

@@ -14,7 +14,7 @@ ghost use Rattle.vc_handler.specs.Wire.{wire};
 
 use crate::accept::{Answer, empty_reply, take_reply};
 use crate::wire::show_event;
-use event_table::{Event, Outcome, Reason, Reply, is_string, kind_of_event, named, row_of};
+use event_table::{Event, Outcome, Reason, Reply, is_string, named, vc_code};
 use ghcb_layout::ghcb_of;
 use image_file::Ram;
 use insn_decode::decode;
@@ -35,7 +35,7 @@ fn of_code(code: u64, event: Option<Event>) -> Result<Event, Unsupported>
     ensures lawful { IfOk result IsLawfulEvent }
 {
     match event {
-        Some(event) if row_of(&kind_of_event(&event)).code == code => Ok(event),
+        Some(event) if vc_code(&event) == code => Ok(event),
         _ => Err(Unsupported(code)),
     }
 }

@@ -18,10 +18,10 @@ ghost use Rattle.vc_handler.specs.ReplyTable.{acceptance, status_of, taken_by};
 /// which words are loaded, in order, what they come to, and which words are left.
 pub fn accepts_by_table()
     // 0, and each result has its bit: the words of the bitmap, then those of the results, and then those of the
-    // shared buffer with the bytes of an input block.
+    // shared buffer with the bytes of an input block or of an MMIO read.
     ensures done { (event : Event) (words : List ℕ) → status_of words ≡ 0 → reply.has_results event words ≡ true →
         acceptance event words
-        ≡ taken_by (reply.up_to_bytes event) (reply.results_loaded (reply.bytes_of_event event)) words }
+        ≡ taken_by (reply.up_to_bytes event) (reply.results_loaded event) words }
     // 0, and a result lacks its bit: the words of the bitmap alone.
     ensures missing { (event : Event) (words : List ℕ) → status_of words ≡ 0 → reply.has_results event words ≡ false →
         acceptance event words ≡ taken_by (reply.up_to_bitmap event) reply.missing_loaded words }

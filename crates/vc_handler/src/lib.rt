@@ -12,6 +12,8 @@ mod accept;
 mod handler;
 pub mod laws;
 #[cfg(test)]
+mod mmio_tests;
+#[cfg(test)]
 mod tests;
 mod wire;
 

@@ -4,7 +4,7 @@ ghost use Rattle.page_words.specs.Told.{Makes, store as store_item};
 ghost use Rattle.ghcb_layout.specs.Bitmap.{bitmap_of as bits_of_words, word_if};
 ghost use Rattle.page_words.specs.declared.item.Item.TheVariants.{Exit};
 ghost use Rattle.event_table.specs.declared.event.Event.TheVariants.{One, Many};
-ghost use Rattle.event_table.specs.Lawful.{IsLawfulBlock, IsLawfulEvent};
+ghost use Rattle.event_table.specs.Lawful.{IsLawfulAccess, IsLawfulBlock, IsLawfulEvent};
 ghost use Rattle.string_io.specs.Buffers.{room_of};
 ghost use Rattle.vc_handler.specs.Wire.{cleared_words, event_wire, last_words, shown_words};
 
@@ -12,6 +12,7 @@ use event_table::{
     Access, Block, Event, Registers, Row, kind_of, kind_of_block, registers_of, row_of,
 };
 use ghcb_layout::{Bitmap, Field, bit_if, protocol_word, word_of};
+use mmio_access::show_mmio;
 use page_words::{Page, Word};
 use string_io::show_block;
 
@@ -47,7 +48,8 @@ fn bitmap_of(row: &Row, registers: &Registers) -> Bitmap
 fn show_row<P: Page>(page: &mut P, row: &Row, registers: &Registers, ghcb: u64)
     requires page { ghcb < 2 ^ 63 }
     requires room { 9 ≤ room_of (P.told page.old) }
-    ensures makes { Makes (P.told page.old) (map store_item (shown_words ghcb row.now registers.now)) (P.told page.new) }
+    ensures makes { Makes (P.told page.old)
+        (map store_item (shown_words ghcb row.now registers.now)) (P.told page.new) }
     ensures room { room_of (P.told page.old) ≤ room_of (P.told page.new) + 9 }
 {
     let xcr = row.shows_xcr0(registers.a);
@@ -75,7 +77,8 @@ fn clear_bitmap<P: Page>(page: &mut P)
 /// Stores the bitmap of what is shown, and version 1 with usage 0, and exits.
 fn leave<P: Page>(page: &mut P, bitmap: &Bitmap, ghcb: u64)
     requires room { 4 ≤ room_of (P.told page.old) }
-    ensures makes { Makes (P.told page.old) (map store_item (last_words bitmap.now) ++ Exit ghcb ∷ []) (P.told page.new) }
+    ensures makes { Makes (P.told page.old)
+        (map store_item (last_words bitmap.now) ++ Exit ghcb ∷ []) (P.told page.new) }
 {
     page.store(Word::BITMAP_LOW, bitmap.low);
     page.store(Word::BITMAP_HIGH, bitmap.high);
@@ -85,14 +88,16 @@ fn leave<P: Page>(page: &mut P, bitmap: &Bitmap, ghcb: u64)
 
 /// Stores all words of an access, and exits.
 fn show_access<P: Page>(page: &mut P, access: &Access, ghcb: u64)
+    requires lawful { IsLawfulAccess access.now }
     requires page { ghcb < 2 ^ 63 }
-    requires room { 15 ≤ room_of (P.told page.old) }
+    requires room { 16 ≤ room_of (P.told page.old) }
     ensures makes { Makes (P.told page.old) (event_wire ghcb (One access.now)) (P.told page.new) }
 {
     let row = row_of(&kind_of(access));
     let registers = registers_of(access);
     clear_bitmap(page);
     show_row(page, &row, &registers, ghcb);
+    show_mmio(access, page);
     leave(page, &bitmap_of(&row, &registers), ghcb);
 }
 

@@ -1,6 +1,7 @@
 -- How many items an event makes at most.
 use Rattle.std.proofs.Common.{◌≡◌, ℕ, suc, ◌+◌, ◌*◌, ◌≤◌, Bool, true, false, List, [], ◌∷◌, ◌++◌, length, map, refl, ap, ◌∙◌, arith, length-append}
 use Rattle.std.specs.Prelude.{if◌then◌else◌}
+use Rattle.std.proofs.lemmas.Grind.{common_steps}
 use Rattle.std.proofs.lemmas.List.{length-map}
 use Rattle.page_words.specs.declared.item.Item.TheVariants.{Exit}
 use Rattle.page_words.specs.Told.{store}
@@ -8,20 +9,23 @@ use Rattle.ghcb_layout.specs.Address.{ghcb_of}
 use Rattle.ghcb_layout.specs.Bitmap.{word_if, low_bits, high_bits}
 use Rattle.ghcb_layout.specs.declared.field.Field.{Field}
 use Rattle.ghcb_layout.specs.declared.field.Field.TheVariants.{Cpl, Rax, Rcx, Rdx, Scratch, Xcr0}
+use Rattle.image_file.specs.Number.{IsLength}
 use Rattle.event_table.specs.declared.access.Access.{Access}
+use Rattle.event_table.specs.declared.access.Access.TheVariants as access
 use Rattle.event_table.specs.declared.event.Event.{Event}
 use Rattle.event_table.specs.declared.event.Event.TheVariants.{One, Many}
 use Rattle.event_table.specs.declared.row.Kind.TheVariants as kind
 use Rattle.event_table.specs.Buffer.{buffer_of, numbered, words_for}
 use Rattle.event_table.specs.Elements.{numbers_in}
-use Rattle.event_table.specs.Lawful.{IsLawfulEvent}
+use Rattle.event_table.specs.Lawful.{IsLawfulAccess, IsLawfulEvent}
 use Rattle.event_table.specs.declared.row.Row.{Row}
 use Rattle.event_table.specs.declared.row.Registers.{Registers}
 use Rattle.event_table.specs.Rows.{bytes_back, event_row, kind_of, kind_of_event, shows_xcr0}
+use Rattle.mmio_access.specs.Shared.{bytes_written}
+use Rattle.string_io.proofs.Runs.{length-bytes_of}
 use Rattle.string_io.proofs.Whole.{length-numbers_in}
 use Rattle.vc_handler.specs.ReplyTable.{bytes_of_event}
 use Rattle.vc_handler.specs.Wire.{bytes_shown, registers_shown, shown_words, stored_words, wire, wire_of}
-use Rattle.vc_handler.proofs.Showing.{no_bytes}
 use Rattle.vc_handler.proofs.Replying.{items_few}
 use Rattle.vcpu_core.specs.Few.{FewItems}
 
@@ -83,11 +87,17 @@ few_back : (input rep : Bool) (port size count shown : ℕ) → count * size ≤
 few_back true rep port size count shown few is = omega (arith, few, is)
 few_back false rep port size count shown few is = omega (arith, few, is)
 
-few_one : (access : Access) → 0 + bytes_back (kind_of access) ≤ 2032
-few_one access = omega (arith, no_bytes access)
+short : (len : ℕ) → IsLength len → len ≤ 8
+short len is = grind (arith, common_steps)
+
+-- and so does the number of an MMIO access
+few_one : (a : Access) → IsLawfulAccess a → length (bytes_written a) + bytes_back (kind_of a) ≤ 2032
+few_one (access.MmioRead at len) lawful = omega (arith, short len lawful.0)
+few_one (access.MmioWrite at len value) lawful = omega (arith, short len lawful.0.0, length-bytes_of len value)
+few_one _ lawful = omega arith
 
 few_bytes : (event : Event) → IsLawfulEvent event → length (bytes_shown event) + bytes_of_event event ≤ 2032
-few_bytes (One access) lawful = few_one access
+few_bytes (One access) lawful = few_one access lawful
 few_bytes (Many block) lawful = few_back block.input block.rep block.port block.size block.count (length block.bytes) lawful.count.1 lawful.bytes
 
 pub few_items : FewItems

@@ -1,5 +1,5 @@
 -- An exception that a guest takes can be delivered.
-use Rattle.std.proofs.Common.{◌≡◌, ℕ, Bool, true, false, Result, refl, subst, arith}
+use Rattle.std.proofs.Common.{◌≡◌, ℕ, Bool, true, false, List, Result, refl, subst, arith}
 use Rattle.std.proofs.lemmas.Grind.{common_steps}
 use Rattle.std.specs.Prelude.{◌==◌, ◌%◌, ◌^◌, ◌||◌, if◌then◌else◌}
 use Rattle.page_words.specs.Told.{Told}
@@ -11,12 +11,16 @@ use Rattle.word_bits.specs.Bits.{number_in}
 use Rattle.exit_info.specs.declared.inject.Inject.{Inject}
 use Rattle.exit_info.specs.declared.inject.BadInject.{BadInject}
 use Rattle.exit_info.specs.Inject.{exception_type as exception_type, layout, request_of}
+use Rattle.event_table.specs.declared.access.Access.{Access}
+use Rattle.event_table.specs.declared.access.Access.TheVariants as access
+use Rattle.event_table.specs.declared.access.Values.{Values}
 use Rattle.event_table.specs.declared.event.Event.{Event}
+use Rattle.event_table.specs.declared.event.Event.TheVariants.{One, Many}
 use Rattle.event_table.specs.declared.outcome.Outcome.{Outcome}
 use Rattle.event_table.specs.declared.row.Results.{Results}
 use Rattle.event_table.specs.Rows.{bytes_back, event_row, kind_of_event}
 use Rattle.string_io.specs.Buffers.{loaded_bytes}
-use Rattle.vc_handler.specs.Accept.{accepting, accepting_by, bitmap, has_all, outcome_requested, loaded_results, loaded_values}
+use Rattle.vc_handler.specs.Accept.{access_done, accepting, accepting_by, bitmap, event_done, has_all, outcome_requested, loaded_results, loaded_values}
 use Rattle.event_table.specs.Raising.{IsRaisable}
 use Rattle.vcpu_core.specs.Resuming.{IsTakable}
 
@@ -46,20 +50,29 @@ takable_word word =
     (λ _. requested_if word (number_in word layout.type == exception_type) _ _
     (λ _. requested_if word ((vector == 6) || (vector == 13)) _ _ (λ is. raisable vector is) tt) tt) tt
 
-results_come : (r : Results) (count : ℕ) → Comes IsTakable (loaded_results r count)
+results_come : (r : Results) (count : ℕ) (done : Values → List ℕ → Outcome) → ((v : Values) (bytes : List ℕ) → IsTakable (done v bytes)) → Comes IsTakable (loaded_results r count done)
 unfolding listen
-results_come r count =
+results_come r count done takes =
     comes_then IsTakable (bitmap r) _
-    (λ b. comes_either IsTakable (has_all r b) _ _ (comes_then IsTakable (loaded_values r) _ (λ v. comes_then IsTakable (loaded_bytes count) _ (λ bytes. tt))) tt)
+    (λ b. comes_either IsTakable (has_all r b) _ _ (comes_then IsTakable (loaded_values r) _ (λ v. comes_then IsTakable (loaded_bytes count) _ (λ bytes. takes v bytes))) tt)
 
-replies_come : (r : Results) (count : ℕ) → Comes IsTakable (accepting_by r count)
+replies_come : (r : Results) (count : ℕ) (done : Values → List ℕ → Outcome) → ((v : Values) (bytes : List ℕ) → IsTakable (done v bytes)) → Comes IsTakable (accepting_by r count done)
 unfolding listen ◌>>=◌
-replies_come r count = λ status.
-    comes_either IsTakable (status % 2 ^ 32 == 0) _ _ (results_come r count)
+replies_come r count done takes = λ status.
+    comes_either IsTakable (status % 2 ^ 32 == 0) _ _ (results_come r count done takes)
     (comes_either IsTakable (status % 2 ^ 32 == 1) _ _ (λ word. takable_word word) tt)
 
+access_takable : (a : Access) (v : Values) (bytes : List ℕ) → IsTakable (access_done a v bytes)
+access_takable (access.MmioRead at len) v bytes = tt
+access_takable _ v bytes = tt
+
+done_takable : (event : Event) (v : Values) (bytes : List ℕ) → IsTakable (event_done event v bytes)
+done_takable (One a) v bytes = access_takable a v bytes
+done_takable (Many block) v bytes = tt
+
 accepts_takable : (event : Event) → Comes IsTakable (accepting event)
-accepts_takable event = replies_come (event_row (kind_of_event event)).results (bytes_back (kind_of_event event))
+accepts_takable event =
+    replies_come (event_row (kind_of_event event)).results (bytes_back (kind_of_event event)) (event_done event) (λ v bytes. done_takable event v bytes)
 
 -- what is read of a reply can be taken
 pub takable : (event : Event) (outcome : Outcome) (t u : Told) → Reads (accepting event) outcome t u → IsTakable outcome
