@@ -14,38 +14,38 @@ use Rattle.event_table.specs.declared.access.Access.{Access}
 use Rattle.event_table.specs.declared.access.Access.TheVariants as a
 use Rattle.event_table.specs.declared.event.Event.{Event}
 use Rattle.event_table.specs.declared.event.Event.TheVariants.{One, Many}
-use Rattle.event_table.specs.Lawful.{IsLawfulAccess, IsLawfulBlock, IsLawfulEvent}
+use Rattle.event_table.specs.Lawful.{IsLawfulAccess, IsLawfulBlock, IsLawfulEvent, IsOfRegisters}
 use Rattle.event_table.specs.Rows.{block, event_row, kind_of, kind_of_event}
-use Rattle.device_bus.specs.Devices.{Devices, answer}
+use Rattle.device_bus.specs.Devices.{Devices}
 use Rattle.vc_handler.specs.Wire.{wire, stored_words, registers_shown, bytes_shown}
-use Rattle.vc_handler.specs.Accept.{accepting, accepting_by}
+use Rattle.vc_handler.specs.Accept.{accepting}
 use Rattle.host_events.specs.Calls.{page_call, call_of}
 use Rattle.host_events.specs.Reading.{event_in, has_infos, has_scratch, has_shown, names_buffer}
 use Rattle.host_events.specs.Call.{Call}
 use Rattle.host_events.specs.Call.{Asked}
 use Rattle.host_events.specs.Served.{Served, reply, served, served_by, entries_by}
-use Rattle.both_ends.specs.BothEnds.{BothEndsAgree, outcome_on, outcome_of, outcome_to}
+use Rattle.both_ends.specs.BothEnds.{BothEndsAgree, outcome_on, outcome_to}
 use Rattle.page_words.specs.Programs.{found}
 use Rattle.both_ends.proofs.Bytes.{block_taken}
-use Rattle.vc_handler.proofs.Showing.{no_bytes}
 use Rattle.both_ends.proofs.Shown.{block_asked}
 use Rattle.both_ends.proofs.Back.{bits, asked_at, in_registers, kind_back, ghcb_read, cut_back, out_back}
+use Rattle.both_ends.proofs.Mmio.{read_asked, write_asked}
 use Rattle.both_ends.proofs.Taken.{takes}
 
 -- A page whose words are what an access shows asks for that access.
-asked_shown : (i : ℕ) (access : Access) (low high : ℕ) (word : ℕ → ℕ) → IsLawfulAccess access
+asked_shown : (i : ℕ) (access : Access) (low high : ℕ) (word : ℕ → ℕ) → IsLawfulAccess access → IsOfRegisters (kind_of access)
     → word 511 ≡ 0x10000 → word 126 ≡ low → word 127 ≡ high → has_infos (bits low high) ≡ true
-    → word 114 ≡ (event_row (kind_of access)).code → word 115 ≡ (event_row (kind_of access)).info
+    → word 114 ≡ (event_row (kind_of access)).code → word 115 ≡ (event_row (kind_of access)).info → word 116 ≡ (event_row (kind_of access)).count
     → has_shown (event_row (kind_of access)) (word 63) (bits low high) ≡ true
     → event_in word (kind_of access) ≡ One access
     → page_call i word ≡ Asked (One access)
-asked_shown i access low high word lawful protocol is_low is_high infos code info shown back =
+asked_shown i access low high word lawful of protocol is_low is_high infos code info count shown back =
     let kind = kind_of access in
-    let bare = in_registers access in
+    let bare = in_registers access of in
     let scratch : has_scratch (event_row kind) (bits low high) ≡ true = rw bare.scratch refl in
     let names : names_buffer i (event_row kind) (word 117) ≡ true = rw bare.scratch refl in
     asked_at i word kind low high protocol is_low is_high infos (rw code bare.event)
-    (rw (code, info) (kind_back access (word 116) lawful)) shown scratch names bare.count
+    (rw (code, info, count) (kind_back access lawful)) shown scratch names bare.count
     ∙ ap (λ (e : Event). Asked e) back
 
 -- the words after these items
@@ -65,45 +65,47 @@ cpuid_wire i leaf sub xcr =
 asked_cpuid : (i leaf sub : ℕ) (xcr : Bool) (old word : ℕ → ℕ) → (leaf % 2 ^ 32 == 0xD) ≡ xcr → (leaf < 2 ^ 32) × (sub < 2 ^ 32)
     → IsAfter (cpuid_wire i leaf sub xcr) old word → page_call i word ≡ Asked (One (a.Cpuid leaf sub))
 asked_cpuid i leaf sub true old word is lawful at =
-    asked_shown i (a.Cpuid leaf sub) (2 ^ 63) 0x201C000200000000 word lawful (at 511 (lit< tt)) (at 126 (lit< tt)) (at 127 (lit< tt)) refl
-    (at 114 (lit< tt)) (at 115 (lit< tt)) (rw (at 63 (lit< tt), is) refl)
+    asked_shown i (a.Cpuid leaf sub) (2 ^ 63) 0x201C000200000000 word lawful tt (at 511 (lit< tt)) (at 126 (lit< tt)) (at 127 (lit< tt)) refl
+    (at 114 (lit< tt)) (at 115 (lit< tt)) (at 116 (lit< tt)) (rw (at 63 (lit< tt), is) refl)
     (rw (cut_back (word 63) leaf (2 ^ 32) (at 63 (lit< tt)) lawful.0, cut_back (word 97) sub (2 ^ 32) (at 97 (lit< tt)) lawful.1) refl)
 asked_cpuid i leaf sub false old word is lawful at =
-    asked_shown i (a.Cpuid leaf sub) (2 ^ 63) 0x001C000200000000 word lawful (at 511 (lit< tt)) (at 126 (lit< tt)) (at 127 (lit< tt)) refl
-    (at 114 (lit< tt)) (at 115 (lit< tt)) (rw (at 63 (lit< tt), is) refl)
+    asked_shown i (a.Cpuid leaf sub) (2 ^ 63) 0x001C000200000000 word lawful tt (at 511 (lit< tt)) (at 126 (lit< tt)) (at 127 (lit< tt)) refl
+    (at 114 (lit< tt)) (at 115 (lit< tt)) (at 116 (lit< tt)) (rw (at 63 (lit< tt), is) refl)
     (rw (cut_back (word 63) leaf (2 ^ 32) (at 63 (lit< tt)) lawful.0, cut_back (word 97) sub (2 ^ 32) (at 97 (lit< tt)) lawful.1) refl)
 
 -- the words that the wire form leaves
 asked_wire : (i : ℕ) (access : Access) (old word : ℕ → ℕ) → IsLawfulAccess access → IsAfter (wire i (One access)) old word → page_call i word ≡ Asked (One access)
 asked_wire i (a.Out port size value) old word lawful at =
-    asked_shown i (a.Out port size value) (2 ^ 63) 0x001C000000000000 word lawful (at 511 (lit< tt)) (at 126 (lit< tt)) (at 127 (lit< tt)) refl
-    (at 114 (lit< tt)) (at 115 (lit< tt)) refl (ap (λ v. One (a.Out port size v)) (out_back (word 63) value size (at 63 (lit< tt)) lawful.1 lawful.2))
+    asked_shown i (a.Out port size value) (2 ^ 63) 0x001C000000000000 word lawful tt (at 511 (lit< tt)) (at 126 (lit< tt)) (at 127 (lit< tt)) refl
+    (at 114 (lit< tt)) (at 115 (lit< tt)) (at 116 (lit< tt)) refl (ap (λ v. One (a.Out port size v)) (out_back (word 63) value size (at 63 (lit< tt)) lawful.1 lawful.2))
 asked_wire i (a.In port size) old word lawful at =
-    asked_shown i (a.In port size) 0 0x001C000000000000 word lawful (at 511 (lit< tt)) (at 126 (lit< tt)) (at 127 (lit< tt)) refl
-    (at 114 (lit< tt)) (at 115 (lit< tt)) refl refl
+    asked_shown i (a.In port size) 0 0x001C000000000000 word lawful tt (at 511 (lit< tt)) (at 126 (lit< tt)) (at 127 (lit< tt)) refl
+    (at 114 (lit< tt)) (at 115 (lit< tt)) (at 116 (lit< tt)) refl refl
 asked_wire i (a.Cpuid leaf sub) old word lawful at = asked_cpuid i leaf sub (leaf % 2 ^ 32 == 0xD) old word refl lawful at
 asked_wire i (a.Rdmsr msr) old word lawful at =
-    asked_shown i (a.Rdmsr msr) 0 0x001C000200000000 word lawful (at 511 (lit< tt)) (at 126 (lit< tt)) (at 127 (lit< tt)) refl
-    (at 114 (lit< tt)) (at 115 (lit< tt)) refl (ap (λ v. One (a.Rdmsr v)) (cut_back (word 97) msr (2 ^ 32) (at 97 (lit< tt)) lawful))
+    asked_shown i (a.Rdmsr msr) 0 0x001C000200000000 word lawful tt (at 511 (lit< tt)) (at 126 (lit< tt)) (at 127 (lit< tt)) refl
+    (at 114 (lit< tt)) (at 115 (lit< tt)) (at 116 (lit< tt)) refl (ap (λ v. One (a.Rdmsr v)) (cut_back (word 97) msr (2 ^ 32) (at 97 (lit< tt)) lawful))
 asked_wire i (a.Wrmsr msr low high) old word lawful at =
-    asked_shown i (a.Wrmsr msr low high) (2 ^ 63) 0x001C000600000000 word lawful (at 511 (lit< tt)) (at 126 (lit< tt)) (at 127 (lit< tt)) refl
-    (at 114 (lit< tt)) (at 115 (lit< tt)) refl
+    asked_shown i (a.Wrmsr msr low high) (2 ^ 63) 0x001C000600000000 word lawful tt (at 511 (lit< tt)) (at 126 (lit< tt)) (at 127 (lit< tt)) refl
+    (at 114 (lit< tt)) (at 115 (lit< tt)) (at 116 (lit< tt)) refl
     (rw (cut_back (word 97) msr (2 ^ 32) (at 97 (lit< tt)) lawful.0, cut_back (word 63) low (2 ^ 32) (at 63 (lit< tt)) lawful.1, cut_back (word 98) high (2 ^ 32) (at 98 (lit< tt)) lawful.2) refl)
 asked_wire i a.Rdtsc old word lawful at =
-    asked_shown i a.Rdtsc 0 0x001C000000000000 word lawful (at 511 (lit< tt)) (at 126 (lit< tt)) (at 127 (lit< tt)) refl
-    (at 114 (lit< tt)) (at 115 (lit< tt)) refl refl
+    asked_shown i a.Rdtsc 0 0x001C000000000000 word lawful tt (at 511 (lit< tt)) (at 126 (lit< tt)) (at 127 (lit< tt)) refl
+    (at 114 (lit< tt)) (at 115 (lit< tt)) (at 116 (lit< tt)) refl refl
 asked_wire i a.Rdtscp old word lawful at =
-    asked_shown i a.Rdtscp 0 0x001C000000000000 word lawful (at 511 (lit< tt)) (at 126 (lit< tt)) (at 127 (lit< tt)) refl
-    (at 114 (lit< tt)) (at 115 (lit< tt)) refl refl
+    asked_shown i a.Rdtscp 0 0x001C000000000000 word lawful tt (at 511 (lit< tt)) (at 126 (lit< tt)) (at 127 (lit< tt)) refl
+    (at 114 (lit< tt)) (at 115 (lit< tt)) (at 116 (lit< tt)) refl refl
 asked_wire i (a.Rdpmc index) old word lawful at =
-    asked_shown i (a.Rdpmc index) 0 0x001C000200000000 word lawful (at 511 (lit< tt)) (at 126 (lit< tt)) (at 127 (lit< tt)) refl
-    (at 114 (lit< tt)) (at 115 (lit< tt)) refl (ap (λ v. One (a.Rdpmc v)) (cut_back (word 97) index (2 ^ 32) (at 97 (lit< tt)) lawful))
+    asked_shown i (a.Rdpmc index) 0 0x001C000200000000 word lawful tt (at 511 (lit< tt)) (at 126 (lit< tt)) (at 127 (lit< tt)) refl
+    (at 114 (lit< tt)) (at 115 (lit< tt)) (at 116 (lit< tt)) refl (ap (λ v. One (a.Rdpmc v)) (cut_back (word 97) index (2 ^ 32) (at 97 (lit< tt)) lawful))
 asked_wire i a.Wbinvd old word lawful at =
-    asked_shown i a.Wbinvd 0 0x001C000000000000 word lawful (at 511 (lit< tt)) (at 126 (lit< tt)) (at 127 (lit< tt)) refl
-    (at 114 (lit< tt)) (at 115 (lit< tt)) refl refl
+    asked_shown i a.Wbinvd 0 0x001C000000000000 word lawful tt (at 511 (lit< tt)) (at 126 (lit< tt)) (at 127 (lit< tt)) refl
+    (at 114 (lit< tt)) (at 115 (lit< tt)) (at 116 (lit< tt)) refl refl
 asked_wire i (a.Vmmcall rax) old word lawful at =
-    asked_shown i (a.Vmmcall rax) (2 ^ 63 + 2 ^ 25) 0x001C000000000000 word lawful (at 511 (lit< tt)) (at 126 (lit< tt)) (at 127 (lit< tt)) refl
-    (at 114 (lit< tt)) (at 115 (lit< tt)) refl (ap (λ v. One (a.Vmmcall v)) (at 63 (lit< tt)))
+    asked_shown i (a.Vmmcall rax) (2 ^ 63 + 2 ^ 25) 0x001C000000000000 word lawful tt (at 511 (lit< tt)) (at 126 (lit< tt)) (at 127 (lit< tt)) refl
+    (at 114 (lit< tt)) (at 115 (lit< tt)) (at 116 (lit< tt)) refl (ap (λ v. One (a.Vmmcall v)) (at 63 (lit< tt)))
+asked_wire i (a.MmioRead address len) old word lawful at = read_asked i address len old word lawful at
+asked_wire i (a.MmioWrite address len value) old word lawful at = write_asked i address len value old word lawful at
 
 -- the exit leaves its address in the MSR word
 msr_after : (page : Kept) (words : List (ℕ × ℕ)) (msr : ℕ) → (kept_after_all page (map store words ++ Exit msr ∷ [])).msr ≡ msr
@@ -148,10 +150,7 @@ called i event before few lawful full =
 taken : (i : ℕ) (event : Event) (page : Kept) (d : Devices) → IsLawfulEvent event → length page.words ≡ 512
     → outcome_on event (kept_after_all page (reply d i event)) ≡ outcome_to d i event
 taken i (One access) page d lawful full =
-    let left = kept_after_all page (reply d i (One access)) in
-    let r = (event_row (kind_of access)).results in
-    subst (λ n. found (accepting_by r n) (λ word. slice_index left.words word) left.msr ≡ outcome_of (answer d i access)) (sym (no_bytes access))
-    (takes d i access _ (λ n. slice_index page.words n) _ (after page (reply d i (One access)) full))
+    takes d i access lawful _ (λ n. slice_index page.words n) _ (after page (reply d i (One access)) full)
 taken i (Many b) page d lawful full =
     taken_many d i b.port b.size b.count b.input b.rep b.bytes (λ n. slice_index page.words n) _ _ lawful (after page (reply d i (Many b)) full)
 

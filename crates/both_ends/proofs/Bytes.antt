@@ -1,4 +1,4 @@
--- The bytes that come back of a block are taken.
+-- The bytes that come back in the shared buffer are taken.
 use Rattle.std.proofs.lemmas.Bool.Decides.{nat_tests}
 use Rattle.std.proofs.Common.{◌≡◌, ℕ, suc, ◌+◌, ◌*◌, ◌^◌, ◌<◌, ◌≤◌, ◌==◌, inl, List, [], ◌∷◌, ◌++◌, length, take, refl, ap, sym, ◌∙◌, arith, Bool, true, false, lit<, length-append}
 use Rattle.std.specs.Prelude.{All, map, if◌then◌else◌}
@@ -6,8 +6,11 @@ use Rattle.page_words.specs.Programs.{Program, pure, loading, reading, found, �
 use Rattle.page_words.specs.Told.{store}
 use Rattle.page_words.proofs.Keeping.{word_after_all}
 use Rattle.event_table.specs.declared.access.Access.{Access}
+use Rattle.event_table.specs.declared.access.Values.{Values}
 use Rattle.event_table.specs.declared.block.Block.{Block}
 use Rattle.event_table.specs.declared.event.Event.TheVariants.{Many}
+use Rattle.event_table.specs.declared.outcome.Outcome.{Outcome}
+use Rattle.event_table.specs.declared.row.Results.{Results}
 use Rattle.event_table.specs.Buffer.{bytes_from, numbered, words_for}
 use Rattle.event_table.specs.Elements.{accesses_of, bytes_in, bytes_of, numbers_in}
 use Rattle.event_table.specs.Lawful.{IsLawfulBlock}
@@ -21,9 +24,17 @@ use Rattle.string_io.proofs.Whole.{all_bytes, length-numbers_in}
 use Rattle.vc_handler.specs.Accept.{accepting_by}
 use Rattle.vc_handler.specs.Accept as accept
 use Rattle.host_events.specs.Reading.{words_on}
-use Rattle.host_events.specs.Served.{block_reply}
+use Rattle.host_events.specs.Served.{buffer_reply}
 use Rattle.both_ends.proofs.Again.{bytes_again, found_words, others_stay, stored_words}
-use Rattle.both_ends.proofs.Taken.{by_status, values}
+
+abbrev pub values : ℕ → ℕ → ℕ → ℕ → Values
+values a c d b = record { a = a; c = c; d = d; b = b }
+
+-- the status is loaded first
+pub by_status : (r : Results) (back : ℕ) (done : Values → List ℕ → Outcome) (word : ℕ → ℕ) (msr status : ℕ) → word 115 ≡ status →
+    found (accepting_by r back done) word msr ≡ found (accept.by_status r back done status) word msr
+unfolding ◌>>=◌
+by_status r back done word msr status is = ap (λ s. found (accept.by_status r back done s) word msr) is
 
 after_append : (xs ys : List (ℕ × ℕ)) (n before : ℕ) →
     word_after_all (map store (xs ++ ys)) n before ≡ word_after_all (map store ys) n (word_after_all (map store xs) n before)
@@ -41,11 +52,11 @@ found_bind (loading n next) g word msr = found_bind (next (word n)) g word msr
 found_bind (reading next) g word msr = found_bind (next msr) g word msr
 
 -- the reply's bytes are taken
-bytes_taken : (back : ℕ) (bytes : List ℕ) (old word : ℕ → ℕ) (msr : ℕ) → length bytes ≡ back → back ≤ 2032 → All (λ byte. byte < 2 ^ 8) bytes →
-    ((n : ℕ) → n < 512 → word n ≡ word_after_all (block_reply bytes) n (old n)) →
-    found (accepting_by (results 0 0 0 0) back) word msr ≡ accept.outcome_done (values 0 0 0 0) bytes
+pub bytes_taken : (back : ℕ) (done : Values → List ℕ → Outcome) (bytes : List ℕ) (old word : ℕ → ℕ) (msr : ℕ) → length bytes ≡ back → back ≤ 2032 → All (λ byte. byte < 2 ^ 8) bytes →
+    ((n : ℕ) → n < 512 → word n ≡ word_after_all (buffer_reply bytes) n (old n)) →
+    found (accepting_by (results 0 0 0 0) back done) word msr ≡ done (values 0 0 0 0) bytes
 unfolding ◌>>=◌
-bytes_taken back bytes old word msr long few all at =
+bytes_taken back done bytes old word msr long few all at =
     let words = numbers_in 8 (words_for (length bytes)) bytes in
     let size : length words ≡ words_for (length bytes) = length-numbers_in 8 (words_for (length bytes)) bytes in
     let most : words_for (length bytes) ≤ 254 = omega arith in
@@ -59,9 +70,9 @@ bytes_taken back bytes old word msr long few all at =
     at (256 + j) (omega arith) ∙ after_append (numbered 256 words) last (256 + j) _ ∙ rw (a, b) refl) in
     let back_is : take back (bytes_from (words_on word (words_for back) 256)) ≡ bytes =
     ap (λ n. take n (bytes_from (words_on word (words_for n) 256))) (sym long) ∙ ap (λ (ws : List ℕ). take (length bytes) (bytes_from ws)) there ∙ bytes_again bytes all in
-    by_status (results 0 0 0 0) back word msr 0 status
-    ∙ found_bind (loaded_bytes back) (λ bytes. pure (accept.outcome_done (values 0 0 0 0) bytes)) word msr
-    ∙ ap (λ (bytes : List ℕ). accept.outcome_done (values 0 0 0 0) bytes)
+    by_status (results 0 0 0 0) back done word msr 0 status
+    ∙ found_bind (loaded_bytes back) (λ bytes. pure (done (values 0 0 0 0) bytes)) word msr
+    ∙ ap (λ (bytes : List ℕ). done (values 0 0 0 0) bytes)
     (found_words (words_for back) 256 (λ words. pure (take back (bytes_from words))) word msr ∙ back_is)
 
 more_bytes : (x y size n : ℕ) → x ≡ size → y ≡ n * size → x + y ≡ suc n * size
@@ -89,8 +100,8 @@ back_of input bytes = if input then bytes else 0
 
 pub block_taken : (d : Devices) (i port size count : ℕ) (input rep : Bool) (shown : List ℕ) (old word : ℕ → ℕ) (msr : ℕ) →
     let b = block port size input rep count shown in
-    IsLawfulBlock b → ((n : ℕ) → n < 512 → word n ≡ word_after_all (block_reply (bytes_to d i b)) n (old n)) →
-    found (accepting_by (results 0 0 0 0) (back_of input (count * size))) word msr ≡ accept.outcome_done (values 0 0 0 0) (bytes_to d i b)
+    IsLawfulBlock b → ((n : ℕ) → n < 512 → word n ≡ word_after_all (buffer_reply (bytes_to d i b)) n (old n)) →
+    found (accepting_by (results 0 0 0 0) (back_of input (count * size)) accept.outcome_done) word msr ≡ accept.outcome_done (values 0 0 0 0) (bytes_to d i b)
 block_taken d i port size count true rep shown old word msr lawful at =
     let b : Block = block port size true rep count shown in
     let said = values_to d i (accesses_of (Many b)) in
@@ -98,6 +109,6 @@ block_taken d i port size count true rep shown old word msr lawful at =
     length-values_to d i (accesses_of (Many b)) ∙ length-map _ (numbers_in size count shown) ∙ length-numbers_in size count shown in
     let long : length (bytes_to d i b) ≡ count * size =
     length-bytes_in size (map (λ x. Number x) said) ∙ ap (λ n. n * size) (length-map (λ x. Number x) said ∙ many) in
-    bytes_taken (count * size) (bytes_to d i b) old word msr long lawful.count.1 (all_bytes size (map (λ x. Number x) said)) at
+    bytes_taken (count * size) accept.outcome_done (bytes_to d i b) old word msr long lawful.count.1 (all_bytes size (map (λ x. Number x) said)) at
 block_taken d i port size count false rep shown old word msr lawful at =
-    bytes_taken 0 [] old word msr refl (omega arith) (λ k d h. absurd (omega arith)) at
+    bytes_taken 0 accept.outcome_done [] old word msr refl (omega arith) (λ k d h. absurd (omega arith)) at

@@ -1,4 +1,4 @@
--- A block that was shown is asked for.
+-- An event with its data in the shared buffer that was shown is asked for.
 use Rattle.std.proofs.lemmas.Bool.Decides.{nat_tests}
 use Rattle.std.proofs.lemmas.Bool.{eq-eqb}
 use Rattle.std.proofs.lemmas.List.{take-append-le}
@@ -9,8 +9,9 @@ use Rattle.page_words.specs.declared.item.Item.TheVariants.{Exit}
 use Rattle.page_words.specs.Told.{store}
 use Rattle.page_words.proofs.Keeping.{word_after_all}
 use Rattle.ghcb_layout.specs.Address.{ghcb_of}
+use Rattle.exit_info.specs.declared.exit_code.ExitCode.{ExitCode}
 use Rattle.exit_info.specs.declared.exit_code.ExitCode.TheVariants as code
-use Rattle.exit_info.specs.ExitCode.{exit_code_of}
+use Rattle.exit_info.specs.ExitCode.{exit_code_of, number_of_code}
 use Rattle.exit_info.specs.IoInfo.{info_word, info_of}
 use Rattle.exit_info.proofs.Inverse.{info_of-word_of}
 use Rattle.event_table.specs.declared.block.Block.{Block}
@@ -27,7 +28,7 @@ use Rattle.string_io.proofs.Whole.{length-numbers_in}
 use Rattle.vc_handler.specs.Wire.{wire_of}
 use Rattle.host_events.specs.Call.{Asked}
 use Rattle.host_events.specs.Calls.{page_call}
-use Rattle.host_events.specs.Reading.{buffer_in, event_in, has_count, has_scratch, has_shown, io_kind, is_count, kind_by, names_buffer, words_on}
+use Rattle.host_events.specs.Reading.{buffer_in, event_in, is_allowed, has_scratch, has_shown, io_kind, is_count, is_event, kind_by, names_buffer, words_on}
 use Rattle.both_ends.proofs.Again.{bytes_again, others_stay, stored_words, length-bytes_from}
 use Rattle.both_ends.proofs.Back.{asked_at, bits, size_back, size_bits}
 
@@ -47,20 +48,20 @@ passes words n before ending last other =
     after_buffer words 256 n before ending last ∙ ap (λ v. word_after_all (map store ending ++ last) n v) (others_stay words 256 n before other)
 
 -- a page whose words are those that a row with a buffer leaves
-abbrev pub IsShown : ℕ → ℕ → ℕ → List ℕ → (ℕ → ℕ) → (ℕ → ℕ) → Type 0
-IsShown ghcb info count bytes old word =
-    (n : ℕ) → n < 512 → word n ≡ word_after_all (wire_of ghcb (buffer_row code.Io info count) (registers 0 0 0) bytes) n (old n)
+abbrev pub IsShown : ℕ → ExitCode → ℕ → ℕ → List ℕ → (ℕ → ℕ) → (ℕ → ℕ) → Type 0
+IsShown ghcb code info count bytes old word =
+    (n : ℕ) → n < 512 → word n ≡ word_after_all (wire_of ghcb (buffer_row code info count) (registers 0 0 0) bytes) n (old n)
 
 -- the words of the rules
-record Shows (ghcb info count : ℕ) (bytes : List ℕ) (word : ℕ → ℕ) : Type 0 where
-  code_is : word 114 ≡ 0x7B
+pub record Shows (ghcb : ℕ) (code : ExitCode) (info count : ℕ) (bytes : List ℕ) (word : ℕ → ℕ) : Type 0 where
+  code_is : word 114 ≡ number_of_code code
   info_is : word 115 ≡ info
   count_is : word 116 ≡ count
   scratch_is : word 117 ≡ ghcb + 0x800
   low_is : word 126 ≡ 0
   high_is : word 127 ≡ 0x003C000000000000
   last_is : word 511 ≡ 0x10000
-  buffer_is : words_on word (words_for (length bytes)) 256 ≡ numbers_in 8 (words_for (length bytes)) bytes
+  pub buffer_is : words_on word (words_for (length bytes)) 256 ≡ numbers_in 8 (words_for (length bytes)) bytes
 
 abbrev ending : List (ℕ × ℕ)
 ending = (126, 0) ∷ (127, 0x003C000000000000) ∷ (511, 0x10000) ∷ []
@@ -76,15 +77,15 @@ in_buffer ghcb n before above below =
     let c : (511 == n) ≡ false = grind (arith, nat_tests) in
     rw (a, b, c) refl
 
-shows : (ghcb info count : ℕ) (bytes : List ℕ) (old word : ℕ → ℕ) → length bytes ≤ 2032 → IsShown ghcb info count bytes old word →
-    Shows ghcb info count bytes word
-shows ghcb info count bytes old word few at =
+pub shows : (ghcb : ℕ) (code : ExitCode) (info count : ℕ) (bytes : List ℕ) (old word : ℕ → ℕ) → length bytes ≤ 2032 →
+    IsShown ghcb code info count bytes old word → Shows ghcb code info count bytes word
+shows ghcb code info count bytes old word few at =
     let words = numbers_in 8 (words_for (length bytes)) bytes in
     let last = Exit ghcb ∷ [] in
     let long : length words ≡ words_for (length bytes) = length-numbers_in 8 (words_for (length bytes)) bytes in
     let most : words_for (length bytes) ≤ 254 = few_words bytes few in
     record {
-      code_is = at 114 (lit< tt) ∙ passes words 114 0x7B ending last (inl (lit< tt));
+      code_is = at 114 (lit< tt) ∙ passes words 114 (number_of_code code) ending last (inl (lit< tt));
       info_is = at 115 (lit< tt) ∙ passes words 115 info ending last (inl (lit< tt));
       count_is = at 116 (lit< tt) ∙ passes words 116 count ending last (inl (lit< tt));
       scratch_is = at 117 (lit< tt) ∙ passes words 117 (ghcb + 0x800) ending last (inl (lit< tt));
@@ -93,7 +94,7 @@ shows ghcb info count bytes old word few at =
       last_is = at 511 (lit< tt) ∙ passes words 511 (old 511) ending last (inr (omega arith));
       buffer_is =
           ap (λ n. words_on word n 256) (sym long)
-          ∙ stored_words words 256 (λ n. word_after_all (map store ((126, 0) ∷ (127, 0) ∷ (114, 0x7B) ∷ (115, info) ∷ (116, count) ∷ (117, ghcb + 0x800) ∷ [])) n (old n)) word
+          ∙ stored_words words 256 (λ n. word_after_all (map store ((126, 0) ∷ (127, 0) ∷ (114, number_of_code code) ∷ (115, info) ∷ (116, count) ∷ (117, ghcb + 0x800) ∷ [])) n (old n)) word
           (λ j h.
           let below : 256 + j < 511 = omega arith in
           at (256 + j) (omega arith)
@@ -122,7 +123,7 @@ length-words_on word zero s = refl
 length-words_on word (suc n) s = ap suc (length-words_on word n (s + 1))
 
 -- the bytes of a buffer are those that were shown there
-buffer_back : (bytes : List ℕ) (word : ℕ → ℕ) → length bytes ≤ 2032 → All (λ byte. byte < 2 ^ 8) bytes →
+pub buffer_back : (bytes : List ℕ) (word : ℕ → ℕ) → length bytes ≤ 2032 → All (λ byte. byte < 2 ^ 8) bytes →
     words_on word (words_for (length bytes)) 256 ≡ numbers_in 8 (words_for (length bytes)) bytes → take (length bytes) (buffer_in word) ≡ bytes
 buffer_back bytes word few all is =
     let n = words_for (length bytes) in
@@ -179,7 +180,7 @@ string_row : (input : Bool) (port size : ℕ) (rep : Bool) (count : ℕ) →
 string_row true port size rep count = refl
 string_row false port size rep count = refl
 
-string_count : (input : Bool) (port size : ℕ) (rep : Bool) (count : ℕ) → has_count (kind_of_string input port size rep count) ≡ is_count size rep count
+string_count : (input : Bool) (port size : ℕ) (rep : Bool) (count : ℕ) → is_allowed (kind_of_string input port size rep count) ≡ is_count size rep count
 string_count true port size rep count = refl
 string_count false port size rep count = refl
 
@@ -187,23 +188,31 @@ few_bytes : (input : Bool) (long all : ℕ) → long ≡ (if input then 0 else a
 few_bytes true long all is few = omega arith
 few_bytes false long all is few = omega arith
 
--- a page whose words are those that a block shows asks for an event of its kind
-string_asked : (i : ℕ) (b : Block) (word : ℕ → ℕ) → IsLawfulBlock b →
-    Shows (ghcb_of i) (info_word (string_io_of b.port b.size b.rep b.input)) b.count b.bytes word →
-    page_call i word ≡ Asked (event_in word (kind_of_string b.input b.port b.size b.rep b.count))
-string_asked i b word lawful s =
-    let kind = kind_of_string b.input b.port b.size b.rep b.count in
-    let r : Row = buffer_row code.Io (info_word (string_io_of b.port b.size b.rep b.input)) b.count in
-    let is : event_row kind ≡ r = string_row b.input b.port b.size b.rep b.count in
-    let named : kind_by (exit_code_of 0x7B) r.info b.count ≡ Some kind =
-    ap (λ info. io_kind info b.count) (info_back b.port b.size b.rep b.input lawful.port lawful.size)
-    ∙ string_kind b.input b.port b.size b.rep b.count lawful.size in
+-- a page whose words are those that a row with a buffer leaves asks for the event of the row's kind
+pub asked_buffered : (i : ℕ) (code : ExitCode) (info count : ℕ) (bytes : List ℕ) (word : ℕ → ℕ) (kind : Kind) →
+    Shows (ghcb_of i) code info count bytes word → event_row kind ≡ buffer_row code info count →
+    is_event (exit_code_of (number_of_code code)) ≡ true → kind_by (exit_code_of (number_of_code code)) info count ≡ Some kind →
+    is_allowed kind ≡ true → page_call i word ≡ Asked (event_in word kind)
+asked_buffered i code info count bytes word kind s is event named counts =
     let bitmap = bits 0 0x003C000000000000 in
-    asked_at i word kind 0 0x003C000000000000 s.last_is s.low_is s.high_is refl (rw s.code_is refl)
+    asked_at i word kind 0 0x003C000000000000 s.last_is s.low_is s.high_is refl (rw s.code_is event)
     (rw (s.code_is, s.info_is, s.count_is) named)
     (ap (λ (r : Row). has_shown r (word 63) bitmap) is)
     (ap (λ (r : Row). has_scratch r bitmap) is)
     (ap (λ (r : Row). names_buffer i r (word 117)) is ∙ eq-eqb (word 117) (ghcb_of i + 0x800) s.scratch_is)
+    counts
+
+-- a page whose words are those that a block shows asks for an event of its kind
+string_asked : (i : ℕ) (b : Block) (word : ℕ → ℕ) → IsLawfulBlock b →
+    Shows (ghcb_of i) code.Io (info_word (string_io_of b.port b.size b.rep b.input)) b.count b.bytes word →
+    page_call i word ≡ Asked (event_in word (kind_of_string b.input b.port b.size b.rep b.count))
+string_asked i b word lawful s =
+    let kind = kind_of_string b.input b.port b.size b.rep b.count in
+    let info = info_word (string_io_of b.port b.size b.rep b.input) in
+    let named : kind_by (exit_code_of 0x7B) info b.count ≡ Some kind =
+    ap (λ info. io_kind info b.count) (info_back b.port b.size b.rep b.input lawful.port lawful.size)
+    ∙ string_kind b.input b.port b.size b.rep b.count lawful.size in
+    asked_buffered i code.Io info b.count b.bytes word kind s (string_row b.input b.port b.size b.rep b.count) refl named
     (string_count b.input b.port b.size b.rep b.count ∙ counted b.size b.count b.rep lawful.size lawful.count)
 
 empty : (bytes : List ℕ) → length bytes ≡ 0 → bytes ≡ []
@@ -221,10 +230,10 @@ string_back port size count false rep bytes word long back =
 
 -- a page whose words are those that a block shows asks for that block
 pub block_asked : (i port size count : ℕ) (input rep : Bool) (bytes : List ℕ) (old word : ℕ → ℕ) → IsLawfulBlock (block port size input rep count bytes) →
-    IsShown (ghcb_of i) (info_word (string_io_of port size rep input)) count bytes old word →
+    IsShown (ghcb_of i) code.Io (info_word (string_io_of port size rep input)) count bytes old word →
     page_call i word ≡ Asked (Many (block port size input rep count bytes))
 block_asked i port size count input rep bytes old word lawful at =
     let few : length bytes ≤ 2032 = few_bytes input (length bytes) (count * size) lawful.bytes lawful.count.1 in
-    let s = shows (ghcb_of i) (info_word (string_io_of port size rep input)) count bytes old word few at in
+    let s = shows (ghcb_of i) code.Io (info_word (string_io_of port size rep input)) count bytes old word few at in
     string_asked i (block port size input rep count bytes) word lawful s
     ∙ ap (λ (e : Event). Asked e) (string_back port size count input rep bytes word lawful.bytes (buffer_back bytes word few lawful.fits s.buffer_is))

@@ -3,9 +3,11 @@
 use Rattle.std.specs.Prelude.{ℕ, ◌+◌, ◌-◌, ◌*◌, ◌/◌, ◌%◌, ◌^◌, ◌==◌, nat_le, nat_lt, Bool, ◌&&◌, if◌then◌else◌, List, [], ◌∷◌, ◌++◌, length, drop, replicate, slice_index, slice_set}
 use Rattle.std.specs.List.{range_with_len}
 use Rattle.image_file.specs.Format.{most_vcpus}
+use Rattle.image_file.specs.Number.{number_at, put_number}
 use Rattle.event_table.specs.declared.access.Access.{Access}
-use Rattle.event_table.specs.declared.access.Access.TheVariants.{Out, In, Cpuid, Rdmsr, Wrmsr, Rdtsc, Rdtscp, Rdpmc, Wbinvd, Vmmcall}
+use Rattle.event_table.specs.declared.access.Access.TheVariants.{Out, In, Cpuid, Rdmsr, Wrmsr, Rdtsc, Rdtscp, Rdpmc, Wbinvd, Vmmcall, MmioRead, MmioWrite}
 use Rattle.event_table.specs.declared.access.Values.{Values}
+use Rattle.event_table.specs.Lawful.{page_start}
 use Rattle.device_bus.specs.declared.answer.Answer.{Answer}
 use Rattle.device_bus.specs.declared.answer.Answer.TheVariants.{Done, Raise}
 
@@ -23,6 +25,12 @@ pub record Devices : Type 0 where
   pub tsc_aux : List ℕ
   -- four words of 64 bits for each vCPU
   pub scratch : List ℕ
+  -- the 4,096 bytes of the page of devices, which all vCPUs share
+  pub page : List ℕ
+
+-- a page of zeros
+unfoldable pub blank : List ℕ
+blank = replicate 4096 0
 
 -- the devices as they are opened: TSC_AUX is the vCPU's number
 abbrev pub opening : ℕ → List ℕ → Devices
@@ -34,6 +42,7 @@ opening vcpus input = record {
   mailboxes = replicate 8 0;
   tsc_aux = range_with_len 0 most_vcpus;
   scratch = replicate (4 * most_vcpus) 0;
+  page = blank;
 }
 
 -- Answers.
@@ -152,6 +161,13 @@ hypercall d i rax =
     if rax == 1 then i else
     2 ^ 64 - 1
 
+-- The page of devices, the lowest byte first. A number that is read is cut to its bytes here.
+abbrev pub page_number : List ℕ → ℕ → ℕ → ℕ
+page_number page at len = number_at len (at - page_start) page % 2 ^ (8 * len)
+
+abbrev pub with_page_number : Devices → ℕ → ℕ → ℕ → Devices
+with_page_number d at len value = record d { page = put_number len (at - page_start) value d.page }
+
 -- the answer to an access of vCPU i, and the devices as it leaves them but for the clock
 abbrev pub device_reply : Devices → ℕ → Access → Answer × Devices
 device_reply d i (Out port size value) = out_reply d port size value
@@ -164,6 +180,8 @@ device_reply d i (Rdpmc index) = (rdpmc_answer d index, d)
 device_reply d i (Cpuid leaf sub) = (Done (cpuid i leaf sub), d)
 device_reply d i (Vmmcall rax) = (in_rax (hypercall d i rax), d)
 device_reply d i Wbinvd = (no_result, d)
+device_reply d i (MmioRead at len) = (in_rax (page_number d.page at len), d)
+device_reply d i (MmioWrite at len value) = (no_result, with_page_number d at len value)
 
 abbrev pub answer : Devices → ℕ → Access → Answer
 answer d i access = (device_reply d i access).0

@@ -1,8 +1,9 @@
 // The devices.
-ghost use Rattle.std.specs.Prelude.{◌≡◌, ◌≤◌, ◌<◌, ◌*◌, ◌^◌, [], OnOk, OnErr};
+ghost use Rattle.std.specs.Prelude.{◌≡◌, ◌≤◌, ◌<◌, ◌*◌, ◌^◌, [], length, OnOk, OnErr};
 ghost use Rattle.std.specs.List.{range_with_len};
 ghost use Rattle.image_file.specs.Format.{most_vcpus};
-ghost use Rattle.event_table.specs.Lawful.{IsLawfulAccess, IsSize};
+ghost use Rattle.event_table.specs.Lawful.{IsInPage, IsLawfulAccess, IsSize};
+ghost use Rattle.device_bus.specs.Devices.{blank, page_number, with_page_number};
 ghost use Rattle.device_bus.specs.Devices.{after_access, answer as answer_of, hypercall as hypercall_of, in_reply, next_byte, opening, out_reply, rdmsr_answer, rdpmc_answer, device_reply as reply_of, console_status as status_of, without_next_byte, wrmsr_reply};
 
 use crate::answer::{Answer, in_edx_eax, in_rax, no_result, raise_gp};
@@ -10,7 +11,7 @@ use crate::cpuid::cpuid;
 use crate::msr::{TSC, TSC_AUX, clock, is_scratch_msr, scratch_place};
 use crate::port::{all_ones, is_data, is_mailbox, is_status, mailbox};
 use event_table::Access;
-use image_file::MOST_VCPUS;
+use image_file::{MOST_VCPUS, read_number, write_number};
 use std::alloc::{AllocError as OutOfMemory, Global};
 use std::marker::Model;
 
@@ -20,8 +21,13 @@ const VCPUS: usize = MOST_VCPUS as usize;
 /// The four words of each vCPU.
 const SCRATCH: usize = 4 * VCPUS;
 
-/// A console with an input, a clock that counts accesses, eight mailboxes that all vCPUs share, and for
-/// each vCPU TSC_AUX and four words.
+/// The address of the page of devices, and its bytes.
+const PAGE_START: u64 = 0xFEB0_0000;
+
+const PAGE_SIZE: usize = 4096;
+
+/// A console with an input, a clock that counts accesses, eight mailboxes and a page of bytes that all
+/// vCPUs share, and for each vCPU TSC_AUX and four words.
 #[derive(Drop)]
 pub struct Bus {
     vcpus: u16,
@@ -32,6 +38,7 @@ pub struct Bus {
     mailboxes: [u32; 8],
     tsc_aux: [u32; VCPUS],
     scratch: [u64; SCRATCH],
+    page: [u8; PAGE_SIZE],
     spare: usize,
 }
 
@@ -51,6 +58,7 @@ impl Model for Bus {
         mailboxes = b.mailboxes;
         tsc_aux = b.tsc_aux;
         scratch = b.scratch;
+        page = b.page;
       };
       spare = b.spare;
     } };
@@ -70,6 +78,22 @@ fn numbers() -> [u32; VCPUS]
     numbers
 }
 
+/// The number in the bytes of the page from an address on, the lowest first.
+fn read_page(page: &[u8], at: u64, len: u8) -> u64
+    requires lawful { IsInPage at len }
+    requires whole { length page.now ≡ 4096 }
+    ensures value { result ≡ page_number page.now at len }
+{
+    read_number(page, (at - PAGE_START) as usize, len)
+}
+
+/// A page of zeros.
+fn blank_page() -> [u8; PAGE_SIZE]
+    ensures value { result ≡ blank }
+{
+    [0; PAGE_SIZE]
+}
+
 impl Bus {
     ghost use Rattle.std.specs.Prelude.{◌+◌};
 
@@ -86,6 +110,7 @@ impl Bus {
             mailboxes: [0; 8],
             tsc_aux: numbers(),
             scratch: [0; SCRATCH],
+            page: blank_page(),
             spare: 0,
         }
     }
@@ -106,6 +131,7 @@ impl Bus {
         self.mailboxes = [0; 8];
         self.tsc_aux = numbers();
         self.scratch = [0; SCRATCH];
+        self.page = blank_page();
         Ok(())
     }
 
@@ -237,6 +263,14 @@ impl Bus {
         }
     }
 
+    /// Writes the low bytes of a value to the page, the lowest first.
+    fn write_page(&mut self, at: u64, len: u8, value: u64)
+        requires lawful { IsInPage at len }
+        ensures after { self.new ≡ record self.old { devices = with_page_number self.old.devices at len value } }
+    {
+        write_number(&mut self.page, (at - PAGE_START) as usize, len, value);
+    }
+
     /// One access, but the clock stands.
     #[inline(always)]
     fn reply(&mut self, vcpu: u16, access: &Access) -> Answer
@@ -261,6 +295,11 @@ impl Bus {
             Access::Cpuid { leaf, sub } => Answer::Done(cpuid(vcpu, leaf, sub)),
             Access::Vmmcall { rax } => in_rax(self.hypercall(vcpu, rax)),
             Access::Wbinvd => no_result(),
+            Access::MmioRead { at, len } => in_rax(read_page(&self.page, at, len)),
+            Access::MmioWrite { at, len, value } => {
+                self.write_page(at, len, value);
+                no_result()
+            }
         }
     }
 

@@ -1,3 +1,4 @@
 pub mod Serving
 pub mod Blocks
 pub mod Keeping
+pub mod Replies

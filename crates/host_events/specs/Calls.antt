@@ -20,7 +20,7 @@ use Rattle.host_events.specs.declared.request.Request.{Request}
 use Rattle.host_events.specs.declared.request.Request.TheVariants as request
 use Rattle.host_events.specs.Call.{Call}
 use Rattle.host_events.specs.Call as call
-use Rattle.host_events.specs.Reading.{word_in, field_in, bitmap_in, code_in, kind_in, event_in, is_event, has_infos, has_shown, has_scratch, names_buffer, has_count}
+use Rattle.host_events.specs.Reading.{word_in, field_in, bitmap_in, code_in, kind_in, event_in, is_event, has_infos, has_shown, has_scratch, names_buffer, is_allowed}
 
 -- a rule of a page, and what a page is that breaks it
 pub record PageRule : Type 0 where
@@ -31,12 +31,12 @@ abbrev pub page_rule : Bool → BadPage → PageRule
 page_rule holds bad = record { holds = holds; bad = bad }
 
 -- The rules of data in the shared buffer, in order: SW_SCRATCH is there, and names the buffer in the page of vCPU i; and
--- SW_EXITINFO2 is a count that string I/O can have.
+-- the count or the bytes that the exit infos name are allowed.
 abbrev pub buffer_rules : ℕ → Kind → (ℕ → ℕ) → Bitmap → List PageRule
 buffer_rules i kind word bitmap =
     page_rule (has_scratch (event_row kind) bitmap) Missing
     ∷ page_rule (names_buffer i (event_row kind) (field_in word Scratch)) Buffer
-    ∷ page_rule (has_count kind) Invalid ∷ []
+    ∷ page_rule (is_allowed kind) Invalid ∷ []
 
 -- The rules of a kind of event: each word that the event shows is there; then those of data in the shared buffer.
 abbrev pub kind_rules : ℕ → Kind → (ℕ → ℕ) → Bitmap → List PageRule

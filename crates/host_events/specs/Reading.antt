@@ -20,7 +20,7 @@ use Rattle.event_table.specs.declared.row.Kind.{Kind}
 use Rattle.event_table.specs.declared.row.Kind.TheVariants as kind
 use Rattle.event_table.specs.declared.row.Row.{Row}
 use Rattle.event_table.specs.Buffer.{bytes_from, first_word}
-use Rattle.event_table.specs.Lawful.{IsSize}
+use Rattle.event_table.specs.Lawful.{IsSize, page_start, page_end}
 use Rattle.event_table.specs.Rows.{event_by, registers, shows_xcr0}
 
 -- the word of a number
@@ -50,11 +50,9 @@ has_shown r a bitmap =
     && (not r.shows.d || has bitmap Rdx)
     && (not (shows_xcr0 r a) || has bitmap Xcr0)
 
--- an exit code of the event table; MMIO isn't taken
+-- an exit code of the event table
 abbrev pub is_event : Result code.ExitCode UnknownCode → Bool
 is_event (Err unknown) = false
-is_event (Ok codes.MmioRead) = false
-is_event (Ok codes.MmioWrite) = false
 is_event (Ok _) = true
 
 -- port I/O by its info, and string I/O with its count
@@ -73,7 +71,8 @@ msr_kind info =
     if info == 1 then Some kind.Wrmsr else
     None
 
--- SW_EXITINFO1 tells more of port I/O and of an MSR alone, and SW_EXITINFO2 is the count of string I/O.
+-- SW_EXITINFO1 tells more of port I/O and of an MSR alone, and SW_EXITINFO2 is the count of string I/O. Of MMIO they are
+-- the address and the bytes.
 abbrev pub kind_by : Result code.ExitCode UnknownCode → ℕ → ℕ → Option Kind
 kind_by (Ok codes.Io) info count = io_kind (info_of info) count
 kind_by (Ok codes.Msr) info count = msr_kind info
@@ -83,8 +82,8 @@ kind_by (Ok codes.Rdtscp) info count = Some kind.Rdtscp
 kind_by (Ok codes.Rdpmc) info count = Some kind.Rdpmc
 kind_by (Ok codes.Wbinvd) info count = Some kind.Wbinvd
 kind_by (Ok codes.Vmmcall) info count = Some kind.Vmmcall
-kind_by (Ok codes.MmioRead) info count = None
-kind_by (Ok codes.MmioWrite) info count = None
+kind_by (Ok codes.MmioRead) at len = Some (kind.MmioRead at len)
+kind_by (Ok codes.MmioWrite) at len = Some (kind.MmioWrite at len)
 kind_by (Err unknown) info count = None
 
 abbrev pub code_in : (ℕ → ℕ) → Result code.ExitCode UnknownCode
@@ -105,13 +104,23 @@ names_buffer i r scratch = not r.scratch || (scratch == ghcb_of i + 0x800)
 abbrev pub is_count : ℕ → Bool → ℕ → Bool
 is_count size rep count = nat_le 1 count && nat_le count (2032 / size) && (rep || (count == 1))
 
--- the count of string I/O is one that a block can have
-abbrev pub has_count : Kind → Bool
-has_count (kind.Outs port size rep count) = is_count size rep count
-has_count (kind.Ins port size rep count) = is_count size rep count
-has_count _ = true
+-- the bytes that an operand can have
+abbrev pub is_length : ℕ → Bool
+is_length len = len == 1 || len == 2 || len == 4 || len == 8
 
--- a kind of event with a size that port I/O has, and with any count
+-- as many bytes from an address on as an operand can have, and all in the page of devices
+abbrev pub is_in_page : ℕ → ℕ → Bool
+is_in_page at len = is_length len && nat_le page_start at && nat_le (at + len) page_end
+
+-- the count of string I/O is one that a block can have, and the bytes of MMIO lie in the page of devices
+abbrev pub is_allowed : Kind → Bool
+is_allowed (kind.Outs port size rep count) = is_count size rep count
+is_allowed (kind.Ins port size rep count) = is_count size rep count
+is_allowed (kind.MmioRead at len) = is_in_page at len
+is_allowed (kind.MmioWrite at len) = is_in_page at len
+is_allowed _ = true
+
+-- a kind of event with a size that port I/O has, with any count, of any length and at any address
 abbrev pub HasSize : Kind → Type 0
 HasSize (kind.Out port size) = IsSize size
 HasSize (kind.In port size) = IsSize size
@@ -119,11 +128,17 @@ HasSize (kind.Outs port size rep count) = IsSize size
 HasSize (kind.Ins port size rep count) = IsSize size
 HasSize _ = Unit {0}
 
--- string I/O, the kinds of event that don't have their data in registers
+-- string I/O, the kinds of event that are blocks
 abbrev pub IsString : Kind → Type 0
 IsString (kind.Outs port size rep count) = Unit {0}
 IsString (kind.Ins port size rep count) = Unit {0}
 IsString _ = ⊥
+
+-- MMIO, the kinds of event that are one access and have its data in the shared buffer
+abbrev pub IsMmio : Kind → Type 0
+IsMmio (kind.MmioRead at len) = Unit {0}
+IsMmio (kind.MmioWrite at len) = Unit {0}
+IsMmio _ = ⊥
 
 -- so many words of a page, from one on
 abbrev pub words_on : (ℕ → ℕ) → ℕ → ℕ → List ℕ

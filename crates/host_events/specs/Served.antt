@@ -10,11 +10,14 @@ use Rattle.msr_protocol.specs.declared.msr_word.MsrWord.TheVariants as msr
 use Rattle.msr_protocol.specs.MsrWord.{encoded}
 use Rattle.exit_info.specs.declared.inject.Inject.{Inject}
 use Rattle.exit_info.specs.Inject.{inject_word, IsLawfulInject}
+use Rattle.event_table.specs.declared.access.Access.{Access}
+use Rattle.event_table.specs.declared.access.Access.TheVariants.{MmioRead}
 use Rattle.event_table.specs.declared.access.Values.{Values}
 use Rattle.event_table.specs.declared.event.Event.{Event}
 use Rattle.event_table.specs.declared.event.Event.TheVariants.{One, Many}
 use Rattle.event_table.specs.declared.row.Results.{Results}
 use Rattle.event_table.specs.Buffer.{buffer_of}
+use Rattle.event_table.specs.Elements.{bytes_of}
 use Rattle.event_table.specs.Rows.{event_row, kind_of}
 use Rattle.device_bus.specs.declared.answer.Answer.{Answer}
 use Rattle.device_bus.specs.declared.answer.Answer.TheVariants.{Done, Raise}
@@ -61,15 +64,21 @@ reply_by r a = stores_of (reply_words r a)
 abbrev pub status_words : List (ℕ × ℕ)
 status_words = (word_number ExitInfo1, 0) ∷ (word_number ExitInfo2, 0) ∷ []
 
--- what is stored of the reply to a block: status 0, the bytes that come back in the shared buffer, whose words have no
--- bits, and the valid bitmap
-abbrev pub block_reply : List ℕ → List Item
-block_reply bytes = map store (status_words ++ (buffer_of bytes ++ bitmap_words (bitmap_of status_words)))
+-- what is stored of a reply with its data in the shared buffer: status 0, the bytes that come back there, whose words
+-- have no bits, and the valid bitmap
+abbrev pub buffer_reply : List ℕ → List Item
+buffer_reply bytes = map store (status_words ++ (buffer_of bytes ++ bitmap_words (bitmap_of status_words)))
+
+-- what is stored of the reply to an access: of an MMIO read its bytes, and of any other its results in registers, which
+-- an MMIO write has none of
+abbrev pub access_reply : Access → Answer → List Item
+access_reply (MmioRead at len) (Done values) = buffer_reply (bytes_of len values.a)
+access_reply access a = reply_by (event_row (kind_of access)).results a
 
 -- what is stored of the reply to an event of vCPU i
 abbrev pub reply : Devices → ℕ → Event → List Item
-reply d i (One access) = reply_by (event_row (kind_of access)).results (answer d i access)
-reply d i (Many block) = block_reply (bytes_to d i block)
+reply d i (One access) = access_reply access (answer d i access)
+reply d i (Many block) = buffer_reply (bytes_to d i block)
 
 -- a page that breaks a rule is answered with a general protection exception
 abbrev pub refusal : List Item

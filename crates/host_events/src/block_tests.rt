@@ -1,11 +1,8 @@
 // Pages of string I/O, served.
-ghost use Rattle.std.specs.Prelude.{◌≡◌, ◌<◌, OnOk};
-
-use crate::tests::{DONE, REFUSED, WordsAt, are_same, broken, page_of, put, started};
-use crate::{BadPage, Host, Hypervisor, Request, read_request};
+use crate::tests::{DONE, REFUSED, WordsAt, broken, leaves, page_of, put, started};
+use crate::{BadPage, Host, Request, read_request};
 use event_table::{Kind, Turn};
 use page_words::Words;
-use std::alloc::AllocError as OutOfMemory;
 use std::test::Fail;
 
 /// The page of vCPU 0 with REP OUTSB of "abc" at the console's data port.
@@ -26,34 +23,16 @@ fn block_page(words: WordsAt) -> Words {
     page
 }
 
-/// Serves that page with some other words to vCPU 0. Whether just these words are left beside the status.
-fn leaves(
-    host: &mut Hypervisor,
-    words: WordsAt,
-    status: WordsAt,
-    left: WordsAt,
-) -> Result<bool, OutOfMemory>
-    requires vcpu { 0 < host.old.vcpus }
-    ensures vcpus { OnOk result (host.new.vcpus ≡ host.old.vcpus) }
-{
-    let mut page = block_page(words);
-    let mut want = block_page(words);
-    put(&mut want, status);
-    put(&mut want, left);
-    host.serve(0, &mut page)?;
-    Ok(are_same(&page, &want))
-}
-
 #[test]
 fn a_block_is_its_accesses_and_one_entry(rt: HostRuntime) -> Result<(), Fail> {
     let mut host = started(rt.alloc(), 1, b"hi")?;
-    assert!(rt; leaves(&mut host, &[], &DONE, &[])?);
+    assert!(rt; leaves(&mut host, &BLOCK_OUT, &[], &DONE, &[])?);
     assert_eq!(rt; host.console(), b"abc".as_slice());
     assert_eq!(rt; host.turns(), 1);
     assert_eq!(rt; host.turn_at(0), Some(Turn { vcpu: 0, count: 3 }));
     // Of an input the last word is padded with zero bytes, and the other words stay.
     let input = [(115, 0x03F8_021D), (256, u64::MAX), (257, u64::MAX)];
-    assert!(rt; leaves(&mut host, &input, &DONE, &[(256, 0x6968)])?);
+    assert!(rt; leaves(&mut host, &BLOCK_OUT, &input, &DONE, &[(256, 0x6968)])?);
     assert_eq!(rt; host.turn_at(1), Some(Turn { vcpu: 0, count: 3 }));
     Ok(())
 }
@@ -85,7 +64,10 @@ fn a_broken_rule_of_a_block_is_refused(rt: HostRuntime) -> Result<(), Fail> {
         assert_eq!(rt; broken(0, &block_page(words)), Some(bad), "{words:?}");
         assert_eq!(rt; bad.code(), code);
         let mut host = started(alloc, 1, b"")?;
-        assert!(rt; leaves(&mut host, words, &REFUSED, &[])?, "{words:?}");
+        assert!(rt;
+            leaves(&mut host, &BLOCK_OUT, words, &REFUSED, &[])?,
+            "{words:?}"
+        );
         assert_eq!(rt; host.turns(), 0);
         assert_eq!(rt; host.console(), b"".as_slice());
     }
@@ -114,23 +96,47 @@ fn elements_of_each_size_are_read_and_written(rt: HostRuntime) -> Result<(), Fai
     // Ten bytes of the input; the second word is padded.
     let bytes = [(115, 0x03F8_021D), (116, 10), (257, u64::MAX)];
     let read = [(256, 0x3736_3534_3332_3130), (257, 0x3938)];
-    assert!(rt; leaves(&mut host, &bytes, &DONE, &read)?);
+    assert!(rt; leaves(&mut host, &BLOCK_OUT, &bytes, &DONE, &read)?);
     // At the console's port two bytes are no device: three elements of ones.
     let ones = [(115, 0x03F8_022D), (116, 3)];
-    assert!(rt; leaves(&mut host, &ones, &DONE, &[(256, 0xFFFF_FFFF_FFFF)])?);
+    assert!(rt;
+        leaves(
+            &mut host,
+            &BLOCK_OUT,
+            &ones,
+            &DONE,
+            &[(256, 0xFFFF_FFFF_FFFF)]
+        )?
+    );
     // The last of three elements of four bytes stays in the mailbox, and is read twice.
     let words = [
         (115, 0x0500_0E4C),
         (256, 0x2222_2222_1111_1111),
         (257, 0xFFFF_FFFF_3333_3333),
     ];
-    assert!(rt; leaves(&mut host, &words, &DONE, &[])?);
+    assert!(rt; leaves(&mut host, &BLOCK_OUT, &words, &DONE, &[])?);
     let mailbox = [(115, 0x0500_024D), (116, 2)];
-    assert!(rt; leaves(&mut host, &mailbox, &DONE, &[(256, 0x3333_3333_3333_3333)])?);
+    assert!(rt;
+        leaves(
+            &mut host,
+            &BLOCK_OUT,
+            &mailbox,
+            &DONE,
+            &[(256, 0x3333_3333_3333_3333)]
+        )?
+    );
     // Two bytes of a mailbox are no device.
     let halves = [(115, 0x0500_0E2C), (116, 2), (256, 0x7777_7777)];
-    assert!(rt; leaves(&mut host, &halves, &DONE, &[])?);
-    assert!(rt; leaves(&mut host, &mailbox, &DONE, &[(256, 0x3333_3333_3333_3333)])?);
+    assert!(rt; leaves(&mut host, &BLOCK_OUT, &halves, &DONE, &[])?);
+    assert!(rt;
+        leaves(
+            &mut host,
+            &BLOCK_OUT,
+            &mailbox,
+            &DONE,
+            &[(256, 0x3333_3333_3333_3333)]
+        )?
+    );
     assert_eq!(rt; host.console(), b"".as_slice());
     assert_eq!(rt; host.turns(), 6);
     assert_eq!(rt; host.turn_at(0), Some(Turn { vcpu: 0, count: 10 }));

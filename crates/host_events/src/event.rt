@@ -1,28 +1,42 @@
 // The event of a page that breaks no rule.
-ghost use Rattle.std.specs.Prelude.{◌≡◌, ◌*◌, [], if◌then◌else◌, take, true, false};
+ghost use Rattle.std.specs.Prelude.{◌≡◌, ◌*◌, ◌^◌, ◌<◌, ◌⊎◌, [], if◌then◌else◌, take, true, false};
+ghost use Rattle.image_file.specs.Number.{IsLength, number_at};
 ghost use Rattle.event_table.specs.Lawful.{IsCount, IsKind, IsLawfulAccess, IsLawfulBlock, IsLawfulEvent};
 ghost use Rattle.event_table.specs.Lawful.{IsOfRegisters, IsSize};
 ghost use Rattle.event_table.specs.Rows.{block};
 ghost use Rattle.event_table.specs.declared.event.Event.TheVariants.{One, Many};
 ghost use Rattle.host_events.specs.Reading as page_reading;
-ghost use Rattle.host_events.specs.Reading.{IsString, word_in};
+ghost use Rattle.host_events.specs.Reading.{IsMmio, IsString, word_in};
 
 use crate::buffer::buffer_bytes;
 use crate::reading::field_in;
 use event_table::{Access, Block, Bytes, Event, Kind, Registers, access_of};
 use ghcb_layout::Field;
-use page_words::Words;
+use image_file::read_number;
+use page_words::{Word, Words};
 
 /// Whether a kind of event is string I/O, which is asked in blocks.
 pub fn is_string(kind: &Kind) -> bool
     ensures string { result ≡ true → IsString kind.now }
-    ensures registers { result ≡ false → IsOfRegisters kind.now }
+    ensures access { result ≡ false → IsOfRegisters kind.now ⊎ IsMmio kind.now }
 {
     matches!(kind, Kind::Outs { .. } | Kind::Ins { .. })
 }
 
-/// The access of a kind, with the registers that the page shows.
-pub fn access_in(page: &Words, kind: &Kind) -> Access
+/// The first word of the shared buffer (AMD 56421, "GHCB Layout").
+const FIRST: u16 = 256;
+
+/// The number in the first bytes of the shared buffer.
+fn number_in(page: &Words, len: u8) -> u64
+    requires len { IsLength len }
+    ensures value { result ≡ number_at len 0 (page_reading.buffer_in (word_in page.now)) }
+    ensures fits { result < 2 ^ (8 * len) }
+{
+    read_number(&page.word(Word::new(FIRST).unwrap()).to_le_bytes(), 0, len)
+}
+
+/// The access of a kind that has its data in registers, with what the page shows of them.
+fn access_of_registers(page: &Words, kind: &Kind) -> Access
     requires lawful { IsKind kind.now }
     requires registers { IsOfRegisters kind.now }
     ensures value { One result ≡ page_reading.event_in (word_in page.now) kind.now }
@@ -36,6 +50,27 @@ pub fn access_in(page: &Words, kind: &Kind) -> Access
             d: field_in(page, Field::Rdx),
         },
     )
+}
+
+/// The access of a kind, with the registers or the bytes that the page shows.
+pub fn access_in(page: &Words, kind: &Kind) -> Access
+    requires lawful { IsKind kind.now }
+    requires access { IsOfRegisters kind.now ⊎ IsMmio kind.now }
+    ensures value { One result ≡ page_reading.event_in (word_in page.now) kind.now }
+    ensures lawful { IsLawfulAccess result }
+{
+    match *kind {
+        Kind::MmioRead { at, len } => Access::MmioRead { at, len: len as u8 },
+        Kind::MmioWrite { at, len } => {
+            let len = len as u8;
+            Access::MmioWrite {
+                at,
+                len,
+                value: number_in(page, len),
+            }
+        }
+        _ => access_of_registers(page, kind),
+    }
 }
 
 /// So many elements of string I/O, and of an output the bytes that the page shows.

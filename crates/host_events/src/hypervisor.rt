@@ -1,17 +1,17 @@
 // A host that keeps its devices and its history.
-ghost use Rattle.std.specs.Prelude.{◌≡◌, ◌<◌, [], OnOk, OnErr};
+ghost use Rattle.std.specs.Prelude.{◌≡◌, ◌<◌, ◌⊎◌, [], OnOk, OnErr};
 ghost use Rattle.page_words.specs.Told.{kept_after_all};
 ghost use Rattle.event_table.specs.Lawful.{IsKind, IsOfRegisters};
 ghost use Rattle.device_bus.specs.Devices.{opening};
 ghost use Rattle.host_events.specs.Hypervised.{after_asked, telling};
-ghost use Rattle.host_events.specs.Reading.{IsString, event_in, word_in};
+ghost use Rattle.host_events.specs.Reading.{IsMmio, IsString, event_in, word_in};
 ghost use Rattle.host_events.specs.Served.{reply};
 
 use crate::answering::block_bytes;
 use crate::event::{access_in, block_in, is_string};
 use crate::history::History;
 use crate::reading::read_request;
-use crate::reply::{cpuid_response, sev_info, store_block_reply, store_refusal, store_reply};
+use crate::reply::{cpuid_response, sev_info, store_buffer_reply, store_refusal, store_reply};
 use crate::{Host, Request};
 use device_bus::Bus;
 use event_table::{Kind, Turn};
@@ -55,7 +55,7 @@ impl Hypervisor {
     fn serve_access(&mut self, vcpu: u16, kind: &Kind, page: &mut Words) -> Result<(), OutOfMemory>
         requires known { vcpu < self.old.vcpus }
         requires lawful { IsKind kind.now }
-        requires registers { IsOfRegisters kind.now }
+        requires access { IsOfRegisters kind.now ⊎ IsMmio kind.now }
         ensures ok { OnOk result (self.new ≡ after_asked vcpu (event_in (word_in page.old) kind.now) self.old) }
         ensures page { let event = event_in (word_in page.old) kind.now in
             OnOk result (page.new ≡ kept_after_all page.old (reply self.old.devices vcpu event)) }
@@ -86,7 +86,7 @@ impl Hypervisor {
         self.bus.reserve(usize::from(block.count))?;
         self.history.push_block(vcpu, &block)?;
         let bytes = block_bytes(&mut self.bus, vcpu, &block);
-        store_block_reply(bytes.as_slice(), page);
+        store_buffer_reply(bytes.as_slice(), page);
         Ok(())
     }
 }

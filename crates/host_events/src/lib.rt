@@ -1,4 +1,8 @@
 //! The host of the guests: it serves their pages over its devices and keeps the history of what it served.
+//!
+//! An event of the event table is one access, with its data in registers or, of MMIO, in the shared buffer, or a
+//! block of string I/O. `specs/Reading.antt` and `specs/Calls.antt` say which a page asks for, and
+//! `specs/Served.antt` what is left of the page.
 #![tactic(auto)]
 
 mod answering;
@@ -9,6 +13,8 @@ mod event;
 mod history;
 mod host;
 mod hypervisor;
+#[cfg(test)]
+mod mmio_tests;
 mod reading;
 mod reply;
 mod request;

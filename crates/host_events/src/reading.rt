@@ -1,6 +1,7 @@
 // How a page is read.
 ghost use Rattle.std.specs.Prelude.{◌≡◌, Some, None, true, IfOk, IfErr, IfSome, OnOk};
-ghost use Rattle.event_table.specs.Lawful.{IsCount, IsKind, IsSize};
+ghost use Rattle.image_file.specs.Number.{IsLength};
+ghost use Rattle.event_table.specs.Lawful.{IsCount, IsInPage, IsKind, IsSize};
 ghost use Rattle.exit_info.specs.IoInfo.{info_of};
 ghost use Rattle.host_events.specs.Reading as page_reading;
 ghost use Rattle.host_events.specs.Reading.{HasSize, word_in};
@@ -17,6 +18,12 @@ use page_words::{Word, Words};
 
 /// Where the shared buffer begins in a page (AMD 56421, "GHCB Layout").
 const BUFFER: u64 = 0x800;
+
+/// Where the page of devices begins.
+const PAGE_START: u64 = 0xFEB0_0000;
+
+/// How many bytes it has.
+const PAGE_SIZE: u64 = 0x1000;
 
 /// The word of a field.
 pub fn field_in(page: &Words, field: Field) -> u64
@@ -65,7 +72,7 @@ fn has_shown(row: &Row, a: u64, bitmap: &Bitmap) -> bool
 fn is_event(code: &Result<ExitCode, UnknownCode>) -> bool
     ensures value { result ≡ page_reading.is_event code.now }
 {
-    !matches!(code, Err(_) | Ok(ExitCode::MmioRead | ExitCode::MmioWrite))
+    code.is_ok()
 }
 
 /// Port I/O by SW_EXITINFO1, and string I/O with its count.
@@ -119,7 +126,15 @@ fn kind_by(code: &Result<ExitCode, UnknownCode>, info: u64, count: u64) -> Optio
         Ok(ExitCode::Rdpmc) => Some(Kind::Rdpmc),
         Ok(ExitCode::Wbinvd) => Some(Kind::Wbinvd),
         Ok(ExitCode::Vmmcall) => Some(Kind::Vmmcall),
-        Ok(ExitCode::MmioRead | ExitCode::MmioWrite) | Err(_) => None,
+        Ok(ExitCode::MmioRead) => Some(Kind::MmioRead {
+            at: info,
+            len: count,
+        }),
+        Ok(ExitCode::MmioWrite) => Some(Kind::MmioWrite {
+            at: info,
+            len: count,
+        }),
+        Err(_) => None,
     }
 }
 
@@ -146,10 +161,26 @@ fn is_count(size: u8, rep: bool, count: u64) -> bool
     1 <= count && count <= 2032 / u64::from(size) && (rep || count == 1)
 }
 
-/// Whether the count of string I/O is one that a block can have.
-fn has_count(kind: &Kind) -> bool
+/// Whether an operand can have so many bytes.
+fn is_length(len: u64) -> bool
+    ensures value { result ≡ page_reading.is_length len }
+    ensures lawful { result ≡ true → IsLength len }
+{
+    matches!(len, 1 | 2 | 4 | 8)
+}
+
+/// Whether an operand can have so many bytes, and all from an address on lie in the page of devices.
+fn is_in_page(at: u64, len: u64) -> bool
+    ensures value { result ≡ page_reading.is_in_page at len }
+    ensures lawful { result ≡ true → IsInPage at len }
+{
+    is_length(len) && PAGE_START <= at && at - PAGE_START <= PAGE_SIZE - len
+}
+
+/// Whether the count of string I/O is one that a block can have, and the bytes of MMIO lie in the page of devices.
+fn is_allowed(kind: &Kind) -> bool
     requires size { HasSize kind.now }
-    ensures value { result ≡ page_reading.has_count kind.now }
+    ensures value { result ≡ page_reading.is_allowed kind.now }
     ensures lawful { result ≡ true → IsKind kind.now }
 {
     match *kind {
@@ -165,6 +196,7 @@ fn has_count(kind: &Kind) -> bool
             count,
             ..
         } => { is_count(size, rep, count) }
+        Kind::MmioRead { at, len } | Kind::MmioWrite { at, len } => is_in_page(at, len),
         _ => true,
     }
 }
@@ -184,7 +216,7 @@ fn fits_buffer(vcpu: u16, page: &Words, bitmap: Bitmap, kind: Kind) -> Result<()
     if !names_buffer(vcpu, &row, field_in(page, Field::Scratch)) {
         return Err(BadPage::Buffer);
     }
-    if !has_count(&kind) {
+    if !is_allowed(&kind) {
         return Err(BadPage::Invalid);
     }
     Ok(())
@@ -200,8 +232,10 @@ fn fits(vcpu: u16, page: &Words, bitmap: &Bitmap, kind: &Kind) -> Result<(), Bad
     ensures lawful { OnOk result (IsKind kind.now) }
 {
     match kind {
-        // It shows no register.
-        Kind::Outs { .. } | Kind::Ins { .. } => fits_buffer(vcpu, page, *bitmap, *kind),
+        // These show no register.
+        Kind::Outs { .. } | Kind::Ins { .. } | Kind::MmioRead { .. } | Kind::MmioWrite { .. } => {
+            fits_buffer(vcpu, page, *bitmap, *kind)
+        }
         _ => {
             if has_shown(&row_of(kind), field_in(page, Field::Rax), bitmap) {
                 Ok(())

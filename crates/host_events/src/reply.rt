@@ -1,6 +1,8 @@
 // What is written on a page.
 ghost use Rattle.std.specs.Prelude.{◌≡◌, ◌<◌, ◌≤◌, ◌+◌, true, length, map};
-ghost use Rattle.event_table.specs.Rows.{event_row, kind_of as kind_of_access};
+ghost use Rattle.event_table.specs.Elements.{bytes_of};
+ghost use Rattle.event_table.specs.Lawful.{IsLawfulAccess};
+ghost use Rattle.device_bus.specs.declared.answer.Answer.TheVariants.{Done};
 ghost use Rattle.page_words.specs.Told.{kept_after_all, store};
 ghost use Rattle.ghcb_layout.specs.Bitmap.{bit_if as bit_of_field, bitmap_of as bits_of_words, word_if};
 ghost use Rattle.host_events.specs.Served as replies;
@@ -99,27 +101,46 @@ pub fn store_refusal(page: &mut Words)
     store_raise(page, REFUSAL.write());
 }
 
-/// Stores the reply to an access: the results, or the exception that the guest is to raise.
-pub fn store_reply(access: &Access, answer: &Answer, page: &mut Words)
-    requires lawful { IsLawfulAnswer answer.now }
-    ensures stored { let results = (event_row (kind_of_access access.now)).results in
-        page.new ≡ kept_after_all page.old (replies.reply_by results answer.now) }
-{
-    match *answer {
-        Answer::Done(values) => store_done(page, &row_of(&kind_of(access)).results, &values),
-        Answer::Raise { vector, code } => store_raise(page, Inject { vector, code }.write()),
-    }
-}
-
-/// Stores the reply to a block: status 0, and the bytes that come back.
-pub fn store_block_reply(bytes: &[u8], page: &mut Words)
+/// Stores a reply with its data in the shared buffer: status 0, and the bytes that come back.
+pub fn store_buffer_reply(bytes: &[u8], page: &mut Words)
     requires few { length bytes.now ≤ 2032 }
-    ensures stored { page.new ≡ kept_after_all page.old (replies.block_reply bytes.now) }
+    ensures stored { page.new ≡ kept_after_all page.old (replies.buffer_reply bytes.now) }
 {
     page.store(word_of(Field::ExitInfo1), 0);
     page.store(word_of(Field::ExitInfo2), 0);
     store_buffer(bytes, page);
     store_bitmap(page, &Bitmap::from_words(0, infos()));
+}
+
+/// Stores the reply to an MMIO read: status 0, and the low bytes of a value.
+fn store_value(len: u8, value: u64, page: &mut Words)
+    requires len { len ≤ 8 }
+    ensures stored { page.new ≡ kept_after_all page.old (replies.buffer_reply (bytes_of len value)) }
+{
+    store_buffer_reply(&value.to_le_bytes()[..usize::from(len)], page);
+}
+
+/// Stores the reply to an access that is done.
+fn store_values(access: &Access, values: &Values, page: &mut Words)
+    requires access { IsLawfulAccess access.now }
+    ensures stored { page.new ≡ kept_after_all page.old (replies.access_reply access.now (Done values.now)) }
+{
+    match *access {
+        Access::MmioRead { len, .. } => store_value(len, values.a, page),
+        _ => store_done(page, &row_of(&kind_of(access)).results, values),
+    }
+}
+
+/// Stores the reply to an access: its data, or the exception that the guest is to raise.
+pub fn store_reply(access: &Access, answer: &Answer, page: &mut Words)
+    requires access { IsLawfulAccess access.now }
+    requires answer { IsLawfulAnswer answer.now }
+    ensures stored { page.new ≡ kept_after_all page.old (replies.access_reply access.now answer.now) }
+{
+    match *answer {
+        Answer::Done(values) => store_values(access, &values, page),
+        Answer::Raise { vector, code } => store_raise(page, Inject { vector, code }.write()),
+    }
 }
 
 /// The MSR word that answers `SevInfoRequest`.

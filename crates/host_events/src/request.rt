@@ -13,8 +13,8 @@ pub enum BadPage {
     Buffer,
     /// The valid bitmap lacks the bit of a word that the event needs.
     Missing,
-    /// The protocol version isn't 1, SW_EXITINFO1 says nothing of the event, or SW_EXITINFO2 is no count of
-    /// string I/O.
+    /// The protocol version isn't 1, SW_EXITINFO1 says nothing of the event, SW_EXITINFO2 is no count of
+    /// string I/O, or the bytes of MMIO don't lie in the page of devices.
     Invalid,
     /// SW_EXITCODE is no event's.
     Unknown,

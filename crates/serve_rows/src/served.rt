@@ -35,6 +35,13 @@ impl fmt::Display for Shown {
             }
             Access::Rdpmc { index } => write!(f, "Rdpmc {{ index: {index:x} }}"),
             Access::Vmmcall { rax } => write!(f, "Vmmcall {{ rax: {rax:x} }}"),
+            Access::MmioRead { at, len } => { write!(f, "MmioRead {{ at: {at:x}, len: {len:x} }}") }
+            Access::MmioWrite { at, len, value } => {
+                write!(
+                    f,
+                    "MmioWrite {{ at: {at:x}, len: {len:x}, value: {value:x} }}"
+                )
+            }
             Access::Rdtsc | Access::Rdtscp | Access::Wbinvd => write!(f, "{:?}", self.0),
         }
     }

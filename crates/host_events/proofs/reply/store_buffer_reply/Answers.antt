@@ -5,7 +5,7 @@ use Rattle.ghcb_layout.specs.Bitmap.{bitmap_of}
 use Rattle.event_table.specs.Buffer.{buffer_of}
 use Rattle.host_events.specs.Served.{bitmap_words, status_words}
 use Rattle.host_events.proofs.Blocks.{makes_kept, stored_append}
-use Rattle.host_events.proofs.reply.store_block_reply.Goals as goal
+use Rattle.host_events.proofs.reply.store_buffer_reply.Goals as goal
 
 pub returns : goal.returns
 returns c =
