@@ -15,10 +15,12 @@ use Rattle.event_table.specs.declared.places.Place.TheVariants.{Bytes}
 use Rattle.event_table.specs.declared.row.Kind.{Kind}
 use Rattle.event_table.specs.Elements.{block_of, can_move, element_width, is_input, is_string}
 use Rattle.event_table.specs.Events.{asked_apart, asked_by, event_or, kind_at, port_at}
+use Rattle.event_table.specs.Moves.{from_page, is_from_page, is_move, is_to_page, move_of, to_page}
 use Rattle.event_table.specs.Places.{Value, Vcpu, number, read, is_readable, is_writable}
 use Rattle.event_table.specs.Plan.{Plan, Ends, Next, Then, Looks, Asks, Setting, Exits, apart, apply, event_asked, if_readable, if_writable, place_at, setting, stepped}
 use Rattle.guest_interp.specs.Stepping.{insn_at, plan_by, plan_of, step_of}
-use Rattle.guest_interp.specs.Table.{alu_op_of, below, moves_to, other_of, private_by, private_of, result_place, widen, with_sign}
+use Rattle.guest_interp.specs.Table.{alu_op_of, below, moves_to, other_of, private_by, private_of, result_place, move, with_sign}
+use Rattle.guest_interp.proofs.Going.{dst_of, src_of}
 use Rattle.guest_interp.proofs.Placing.{not_one}
 use Rattle.string_io.proofs.Along.{at_of, left_of}
 
@@ -43,14 +45,14 @@ asksless_writable s p plan h = asksless_if (is_writable s.ram s.code p) plan _ h
 asksless_moves : (s : Setting) (dst src : Place) (extend : ℕ → ℕ) → Asksless (moves_to s dst src extend)
 asksless_moves s dst src extend = asksless_readable s src _ (asksless_writable s dst _ tt)
 
-asksless_widen : (i : Insn) (s : Setting) (extend : ℕ → ℕ) → Asksless (widen i s extend)
-asksless_widen i s extend = λ to from. asksless_moves s (place_at s.next i.width i.dst to) (place_at s.next i.source_width i.src from) extend
+asksless_move : (i : Insn) (s : Setting) (extend : ℕ → ℕ) → Asksless (move i s extend)
+asksless_move i s extend = λ to from. asksless_moves s (place_at s.next i.width i.dst to) (place_at s.next i.source_width i.src from) extend
 
 asksless_other : (o : Op) (i : Insn) (s : Setting) → Asksless (other_of o i s)
-asksless_other op.Mov i s = λ to from. asksless_moves s (place_at s.next i.width i.dst to) (place_at s.next i.width i.src from) (λ value. value)
-asksless_other op.Movzx i s = asksless_widen i s (λ value. value)
-asksless_other op.Movsx i s = asksless_widen i s (with_sign i)
-asksless_other op.Movsxd i s = asksless_widen i s (with_sign i)
+asksless_other op.Mov i s = asksless_move i s (λ value. value)
+asksless_other op.Movzx i s = asksless_move i s (λ value. value)
+asksless_other op.Movsx i s = asksless_move i s (with_sign i)
+asksless_other op.Movsxd i s = asksless_move i s (with_sign i)
 asksless_other op.Lea i s = λ to. asksless_writable s (place_at s.next i.width i.dst to) _ tt
 asksless_other op.Push i s = λ rsp from. asksless_readable s (place_at s.next B64 i.dst from) _ (asksless_writable s (Bytes (below (number rsp 0) 8) B64) _ tt)
 asksless_other op.Pop i s = λ rsp. asksless_readable s (Bytes (number rsp 0) B64) _ tt
@@ -93,6 +95,11 @@ exits_if : (t : Bool) (v w : Vcpu) (event : Event) (p q r : Plan) → (stepped v
 exits_if true v w event p q r one other is = one is
 exits_if false v w event p q r one other is = other is
 
+exits_both : (t : Bool) (v w : Vcpu) (event : Event) (p q r s : Plan) → (stepped v p ≡ Exits event w → IsAsked v w event r) → (stepped v q ≡ Exits event w → IsAsked v w event s) →
+    stepped v (if t then p else q) ≡ Exits event w → IsAsked v w event (if t then r else s)
+exits_both true v w event p q r s one other is = one is
+exits_both false v w event p q r s one other is = other is
+
 -- a plan that asks at once
 asks_at_once : (v w : Vcpu) (asked event : Event) → Exits asked v ≡ Exits event w → (w ≡ v) × (Some asked ≡ Some event)
 asks_at_once v w asked event is = (cc, cc)
@@ -107,11 +114,20 @@ exits_registers : (k : Option Kind) (i : Insn) (v w : Vcpu) (event : Event) → 
 exits_registers None i v w event is = absurd (never_exits v w (private_of i (setting v i.len)) event (asksless_private (alu_op_of i.op) i (setting v i.len)) is)
 exits_registers (Some k) i v w event is = asks_at_once v w _ event is
 
+exits_paged : (i : Insn) (v w : Vcpu) (event : Event) → stepped v (move_of i (setting v i.len) (private_of i (setting v i.len))) ≡ Exits event w →
+    IsAsked v w event (move_of i (setting v i.len) (Ends Undecoded))
+exits_paged i v w event =
+    let s = setting v i.len in
+    exits_if (is_to_page s (dst_of i s v) (src_of i s v)) v w event (to_page i s (dst_of i s v) (src_of i s v)) _ _ (λ is. asks_at_once v w _ event is)
+    (exits_if (is_from_page s (dst_of i s v) (src_of i s v)) v w event (from_page i s (dst_of i s v) (src_of i s v)) (private_of i s) (Ends Undecoded) (λ is. asks_at_once v w _ event is)
+    (λ is. absurd (never_exits v w (private_of i s) event (asksless_private (alu_op_of i.op) i s) is)))
+
 -- an instruction that exits
 exits_asked : (i : Insn) (v w : Vcpu) (event : Event) → stepped v (plan_of i (setting v i.len)) ≡ Exits event w → (w ≡ v) × (asked_by i v ≡ Some event)
 exits_asked i v w event is =
     exits_if (is_string i.op) v w event _ _ _ (exits_block i v w event)
-    (exits_registers (kind_at i.op i.width (number (map (read v) (port_at i.op i ∷ [])) 0)) i v w event) is
+    (exits_both (is_move i.op) v w event _ _ _ _ (exits_paged i v w event)
+    (exits_registers (kind_at i.op i.width (number (map (read v) (port_at i.op i ∷ [])) 0)) i v w event)) is
 
 -- the instruction that a vCPU exits by
 pub record ExitsBy (v : Vcpu) (event : Event) : Type 0 where
@@ -137,7 +153,12 @@ apart_if : (string : Bool) (v : Vcpu) (access : Access) (p q r s : Plan) → (ev
 apart_if true v access p q r s not same one = absurd (not one)
 apart_if false v access p q r s not same one = same
 
+same_if : (t : Bool) (v : Vcpu) (p q r : Plan) → event_asked v r ≡ event_asked v q → event_asked v (if t then p else r) ≡ event_asked v (if t then p else q)
+same_if true v p q r same = refl
+same_if false v p q r same = same
+
 pub asked_alone : (i : Insn) (v : Vcpu) (access : Access) → asked_by i v ≡ Some (One access) → asked_apart i v ≡ asked_by i v
 asked_alone i v access asks =
     apart_if (is_string i.op) v access _ _ _ _ (not_one i v access)
-    (registers_apart (kind_at i.op i.width (number (map (read v) (port_at i.op i ∷ [])) 0)) v i.len) asks
+    (same_if (is_move i.op) v (move_of i (setting v i.len) (Ends Undecoded)) _ _
+    (registers_apart (kind_at i.op i.width (number (map (read v) (port_at i.op i ∷ [])) 0)) v i.len)) asks

@@ -12,11 +12,12 @@ use Rattle.event_table.specs.declared.places.Place.TheVariants.{Bytes}
 use Rattle.event_table.specs.Elements.{can_move, element_of, element_width, is_input, is_string}
 use Rattle.event_table.specs.Ending.{IsOver}
 use Rattle.event_table.specs.Events.{kind_at, port_at}
+use Rattle.event_table.specs.Moves.{is_move}
 use Rattle.event_table.specs.Places.{Vcpu, number, read}
 use Rattle.event_table.specs.Plan.{Plan, Stepped, Moved, Exits, Stops, apart, event_asked, reply_with, step_answered}
 use Rattle.event_table.proofs.Over.{raised_over}
 use Rattle.guest_interp.specs.Stepping.{insn_at}
-use Rattle.guest_interp.proofs.Going.{exit_over, over_if, results_over, taking_over}
+use Rattle.guest_interp.proofs.Going.{exit_over, over_if, paged_over, results_over, taking_over}
 use Rattle.device_bus.specs.declared.answer.Answer.{Answer}
 use Rattle.device_bus.specs.declared.answer.Answer.TheVariants.{Done, Raise}
 use Rattle.device_bus.specs.Devices.{Devices, answer}
@@ -43,7 +44,8 @@ element_over i v reply =
 alone_by_over : (r : Result Insn End) (v : Vcpu) (reply : Reply) → IsOver (step_answered reply v (alone_by r v))
 alone_by_over (Ok i) v reply =
     over_if (is_string i.op) v reply _ _ (element_over i v reply)
-    (exit_over (kind_at i.op i.width (number (map (read v) (port_at i.op i ∷ [])) 0)) (apart v i.len) v reply)
+    (over_if (is_move i.op) v reply _ _ (paged_over i (apart v i.len) v reply)
+    (exit_over (kind_at i.op i.width (number (map (read v) (port_at i.op i ∷ [])) 0)) (apart v i.len) v reply))
 alone_by_over (Err end) v reply = tt
 
 alone_over : (v : Vcpu) (reply : Reply) → IsOver (step_answered reply v (alone_at v))
