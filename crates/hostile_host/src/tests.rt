@@ -3,6 +3,7 @@ ghost use Rattle.std.specs.Prelude.{◌<◌};
 
 use crate::hostile_run;
 use event_table::{End, Reason};
+use hex_rows::Row;
 use image_samples::sample_image;
 use page_words::{Item, Recorded, Script, Word};
 use std::alloc::Global;
@@ -301,5 +302,123 @@ fn a_block_that_comes_down_to_the_code_is_cut_there(rt: HostRuntime) -> Result<(
     assert_eq!(rt; run.vcpu.regs().get(Reg::Rdi), 0x10);
     assert_eq!(rt; run.vcpu.end(), Some(End::BadAddress(0x10)));
     assert_eq!(rt; run.vcpu.steps(), 6);
+    Ok(())
+}
+
+/// What a guest that writes RBX, which is FEB00010h, to its address, or reads from there, makes up to its exit, as the
+/// shown words of its event are.
+fn asked_move(code: u64, len: u64) -> [Item; 8] {
+    [
+        Item::Exit(2),
+        Item::Msr(VERSION_1),
+        store(126, 0),
+        store(127, 0),
+        store(114, code),
+        store(115, 0xFEB0_0010),
+        store(116, len),
+        store(117, 0x8000_0800),
+    ]
+}
+
+/// The last items up to its exit, and the load of the status 0.
+fn exits() -> [Item; 5] {
+    [
+        store(126, 0),
+        store(127, 0x003C_0000_0000_0000),
+        store(511, 0x1_0000),
+        Item::Exit(0x8000_0000),
+        load(115, 0),
+    ]
+}
+
+/// A run of MOV EBX, FEB00010h; an instruction; HLT: version 1 is offered, the status is 0, and the two words
+/// behind it come next.
+fn run_moving(alloc: Global, insn: &[u8], word: u64) -> Result<Run, Fail> {
+    let mut code = Row::new("BB 10 00 B0 FE").bytes(alloc)?;
+    code.extend_from_slice(insn)?;
+    code.push(0xF4)?;
+    run_over(alloc, code.as_slice(), &[VERSION_1, 0, word, u64::MAX])
+}
+
+/// Whether a run has come to its HLT with this in RAX.
+fn halts(run: &Run, rax: u64) -> bool {
+    run.vcpu.end() == Some(End::Halted) && run.vcpu.regs().get(Reg::Rax) == rax
+}
+
+/// The first row of moves from [RBX], each with its length and RAX afterwards, that makes other items or another
+/// RAX of a word with all its bits.
+fn misread<'a>(alloc: Global, table: &'a str) -> Result<Option<&'a str>, Fail> {
+    let word = 0x8877_6655_F433_A291;
+    for line in table.lines() {
+        let mut row = Row::new(line);
+        let insn = row.bytes(alloc)?;
+        let [len, rax] = row.numbers::<2>()?;
+        let run = run_moving(alloc, insn.as_slice(), word)?;
+        let [low, high, version, exit, status] = exits();
+        let last = [low, high, version, exit, status, load(256, word)];
+        if !are(run.page.items(), &asked_move(0x8000_0001, len), &last) || !halts(&run, rax) {
+            return Ok(Some(line));
+        }
+    }
+    Ok(None)
+}
+
+/// Moves from [RBX] to RAX: MOV, MOVZX and MOVSX.
+const READING_MOVES: &str = "8A 03 | 1 91
+8A 23 | 1 9100
+66 8B 03 | 2 A291
+8B 03 | 4 F433A291
+48 8B 03 | 8 88776655F433A291
+48 0F B6 03 | 1 91
+0F B7 03 | 2 A291
+0F BE 03 | 1 FFFFFF91
+48 0F BF 03 | 2 FFFFFFFFFFFFA291";
+
+#[test]
+fn a_read_of_the_page_is_cut_to_its_length(rt: HostRuntime) -> Result<(), Fail> {
+    assert_eq!(rt; misread(rt.alloc(), READING_MOVES)?, None);
+    Ok(())
+}
+
+/// The first row of moves to [RBX], each with its length and word 256, that makes other items: of the reply it hears
+/// its status alone.
+fn miswritten<'a>(alloc: Global, table: &'a str) -> Result<Option<&'a str>, Fail> {
+    for line in table.lines() {
+        let mut row = Row::new(line);
+        let insn = row.bytes(alloc)?;
+        let [len, number] = row.numbers::<2>()?;
+        let run = run_moving(alloc, insn.as_slice(), u64::MAX)?;
+        let [low, high, version, exit, status] = exits();
+        let last = [store(256, number), low, high, version, exit, status];
+        if !are(run.page.items(), &asked_move(0x8000_0002, len), &last) || !halts(&run, 0) {
+            return Ok(Some(line));
+        }
+    }
+    Ok(None)
+}
+
+/// Moves of BL, BH, BX, EBX, RBX and -128 to [RBX].
+const WRITING_MOVES: &str = "88 1B | 1 10
+88 3B | 1 0
+66 89 1B | 2 10
+89 1B | 4 FEB00010
+48 89 1B | 8 FEB00010
+C6 03 80 | 1 80";
+
+#[test]
+fn a_write_to_the_page_shows_its_bytes_alone(rt: HostRuntime) -> Result<(), Fail> {
+    assert_eq!(rt; miswritten(rt.alloc(), WRITING_MOVES)?, None);
+    Ok(())
+}
+
+#[test]
+fn a_move_that_leaves_the_page_tells_nothing(rt: HostRuntime) -> Result<(), Fail> {
+    // MOV EAX, FEB00FFDh; MOV EAX, [RAX]; HLT
+    let code = [0xB8, 0xFD, 0x0F, 0xB0, 0xFE, 0x8B, 0x00, 0xF4];
+    let run = run_over(rt.alloc(), &code, &[VERSION_1])?;
+    let made = [Item::Exit(2), Item::Msr(VERSION_1)];
+    assert!(rt; are(run.page.items(), &made, &[]));
+    assert_eq!(rt; run.vcpu.end(), Some(End::BadAddress(0xFEB0_0FFD)));
+    assert_eq!(rt; run.vcpu.steps(), 1);
     Ok(())
 }

@@ -6,6 +6,8 @@
 
 mod handled_guest;
 pub mod laws;
+#[cfg(test)]
+mod mmio_tests;
 mod stage;
 #[cfg(test)]
 mod tests;

@@ -1,6 +1,7 @@
 // A vCPU over a page in memory, with the host's side done by hand.
 use crate::{Progress, Vcpu};
 use event_table::{End, Reason};
+use hex_rows::Row;
 use image_file::Image;
 use image_samples::sample_image;
 use page_words::{Page, Word, Words};
@@ -9,7 +10,7 @@ use std::test::Fail;
 use x86_base::Reg;
 
 /// The host's answer on its versions: 1 at least and at most.
-const VERSION_1: u64 = 0x0001_0001_0000_0001;
+pub const VERSION_1: u64 = 0x0001_0001_0000_0001;
 
 /// MOV EDX, 3F8h; IN AL, DX; RDMSR; at 8 OUT DX, AL; HLT. The handler of #UD is at 8.
 fn image(alloc: Global) -> Result<Image, Fail> {
@@ -18,7 +19,7 @@ fn image(alloc: Global) -> Result<Image, Fail> {
 }
 
 /// A vCPU over a page, once it has asked for the versions and heard this word.
-fn met(alloc: Global, image: &Image, answer: u64) -> Result<(Vcpu, Words), Fail> {
+pub fn met(alloc: Global, image: &Image, answer: u64) -> Result<(Vcpu, Words), Fail> {
     let mut vcpu = Vcpu::new(image, 0, image.ram(alloc)?);
     let mut page = Words::new();
     vcpu.run_to_exit(image, &mut page, 100);
@@ -28,7 +29,7 @@ fn met(alloc: Global, image: &Image, answer: u64) -> Result<(Vcpu, Words), Fail>
 }
 
 /// Stores words of a reply, as the host does.
-fn reply(page: &mut Words, words: &[(u16, u64)]) {
+pub fn reply(page: &mut Words, words: &[(u16, u64)]) {
     for (number, value) in words {
         if let Some(word) = Word::new(*number) {
             page.store(word, *value);
@@ -75,34 +76,70 @@ fn no_version_fits(rt: HostRuntime) -> Result<(), Fail> {
     Ok(())
 }
 
+/// Whether each register of these numbers is so.
+fn has_regs(vcpu: &Vcpu, regs: &[(u16, u64)]) -> bool {
+    regs.iter().all(|(number, value)| vcpu.regs().gpr.get(usize::from(*number)) == Some(value))
+}
+
+/// Whether vCPU 0 exits, and goes on by the host's reply, as a row tells. Its cells are words that the vCPU shows; how
+/// many accesses its event has, and its steps; the words of the reply; registers by their numbers; and RIP and the
+/// steps after it.
+pub fn talks(
+    alloc: Global,
+    image: &Image,
+    vcpu: &mut Vcpu,
+    page: &mut Words,
+    row: &str,
+) -> Result<bool, Fail> {
+    let mut row = Row::new(row);
+    let shown = row.words(alloc)?;
+    let [pending, before] = row.numbers::<2>()?;
+    let answer = row.words(alloc)?;
+    let regs = row.words(alloc)?;
+    let [rip, after] = row.numbers::<2>()?;
+    let exits = vcpu.run_to_exit(image, page, 10_000) == Progress::Exited
+        && page.msr_word() == 0x8000_0000
+        && unlike(page, shown.as_slice()).is_none();
+    let waits = u64::from(vcpu.pending()) == pending && vcpu.steps() == before;
+    reply(page, answer.as_slice());
+    vcpu.resume(image, page);
+    let goes_on = vcpu.regs().rip == rip && vcpu.steps() == after && !vcpu.waiting();
+    Ok(exits && waits && goes_on && has_regs(vcpu, regs.as_slice()))
+}
+
+/// Whether a vCPU goes on to its HLT, and has gone so many steps then.
+pub fn halts(image: &Image, vcpu: &mut Vcpu, page: &mut Words, steps: u64) -> bool {
+    vcpu.run_to_exit(image, page, 10_000) == Progress::Ended
+        && vcpu.end() == Some(End::Halted)
+        && vcpu.steps() == steps
+}
+
+/// The eight bytes at an address.
+fn bytes_at(vcpu: &Vcpu, at: u64) -> Option<u64> {
+    vcpu.ram().read(at, 8).ok()
+}
+
+/// IN, answered with a byte of the console and RAX's bit.
+const ANSWERED: &str = "114:7B | 1 1 | 115:0 126:8000000000000000 63:1148 | 0:48 | 6 2";
+
+/// RDMSR, answered with #UD.
+const REFUSED: &str = "114:7C | 1 2 | 115:1 116:80000306 | | 8 3";
+
+/// OUT, answered with a status that is no reply.
+const UNANSWERED: &str = "114:7B | 1 3 | 115:2 | | 8 3";
+
 #[test]
 fn events_are_answered_one_after_another(rt: HostRuntime) -> Result<(), Fail> {
-    let image = image(rt.alloc())?;
-    let (mut vcpu, mut page) = met(rt.alloc(), &image, VERSION_1)?;
-    // IN: a byte of the console, with RAX's bit
-    assert_eq!(rt; vcpu.run_to_exit(&image, &mut page, 100), Progress::Exited);
-    assert_eq!(rt; page.msr_word(), 0x8000_0000);
-    assert_eq!(rt; word(&page, 114), Some(0x7B));
-    assert_eq!(rt; (vcpu.pending(), vcpu.steps()), (1, 1));
-    reply(&mut page, &[(115, 0), (126, 1 << 63), (63, 0x1148)]);
-    vcpu.resume(&image, &mut page);
-    assert_eq!(rt; vcpu.regs().get(Reg::Rax), 0x48);
-    assert_eq!(rt; (vcpu.pending(), vcpu.steps()), (0, 2));
-    // RDMSR: #UD, whose frame is 40 bytes below RSP
-    assert_eq!(rt; vcpu.run_to_exit(&image, &mut page, 100), Progress::Exited);
-    assert_eq!(rt; word(&page, 114), Some(0x7C));
-    reply(&mut page, &[(115, 1), (116, 0x8000_0306)]);
-    vcpu.resume(&image, &mut page);
-    assert_eq!(rt; vcpu.regs().rip, 8);
-    assert_eq!(rt; vcpu.ram().read(0x1000 - 40, 8).ok(), Some(6));
-    assert_eq!(rt; vcpu.steps(), 3);
-    // OUT: a status that is no reply
-    assert_eq!(rt; vcpu.run_to_exit(&image, &mut page, 100), Progress::Exited);
-    reply(&mut page, &[(115, 2)]);
-    vcpu.resume(&image, &mut page);
+    let alloc = rt.alloc();
+    let image = image(alloc)?;
+    let (mut vcpu, mut page) = met(alloc, &image, VERSION_1)?;
+    assert!(rt; talks(alloc, &image, &mut vcpu, &mut page, ANSWERED)?);
+    assert!(rt; talks(alloc, &image, &mut vcpu, &mut page, REFUSED)?);
+    // the frame of the exception is 40 bytes below RSP
+    assert_eq!(rt; bytes_at(&vcpu, 0x1000 - 40), Some(6));
+    assert!(rt; talks(alloc, &image, &mut vcpu, &mut page, UNANSWERED)?);
     assert_eq!(rt; page.msr_word(), 0x100);
     assert_eq!(rt; vcpu.end(), Some(End::Terminated(Reason::BadStatus(2))));
-    assert_eq!(rt; (vcpu.waiting(), vcpu.steps()), (false, 3));
     Ok(())
 }
 
@@ -117,7 +154,7 @@ fn a_budget_ends_it(rt: HostRuntime) -> Result<(), Fail> {
 }
 
 /// The number of the first word of a page that isn't as told.
-fn unlike(page: &Words, words: &[(u16, u64)]) -> Option<u16> {
+pub fn unlike(page: &Words, words: &[(u16, u64)]) -> Option<u16> {
     for (number, value) in words {
         if word(page, *number) != Some(*value) {
             return Some(*number);
@@ -138,62 +175,22 @@ fn printing(alloc: Global) -> Result<Image, Fail> {
     Ok(sample_image(alloc, code.as_slice(), 0, 0)?)
 }
 
-/// What each block of output from a byte port shows: its exit, SW_SCRATCH of vCPU 0, and their bits.
-const OUTPUT: [(u16, u64); 6] = [
-    (114, 0x7B),
-    (115, 0x03F8_0E1C),
-    (117, 0x8000_0800),
-    (126, 0),
-    (127, 0x003C_0000_0000_0000),
-    (511, 0x1_0000),
-];
+/// The first block of a long string: 2,032 bytes, which are words 256 to 509.
+const FIRST: &str = "114:7B 115:3F80E1C 116:7F0 117:80000800 126:0 127:3C000000000000 511:10000 \
+    256:706050403020100 257:F0E0D0C0B0A0908 509:1716151413121110 510:0 | 7F0 3 | 115:0 | 1:1 6:802 | F 7F3";
+
+/// The last byte, which is in word 256 alone.
+const LAST: &str = "114:7B 115:3F80E1C 116:1 117:80000800 126:0 127:3C000000000000 511:10000 \
+    256:18 257:F0E0D0C0B0A0908 | 1 7F3 | 115:0 | 1:0 6:803 | 11 7F4";
 
 #[test]
 fn a_string_goes_out_in_blocks_that_fit_the_buffer(rt: HostRuntime) -> Result<(), Fail> {
-    let image = printing(rt.alloc())?;
-    let (mut vcpu, mut page) = met(rt.alloc(), &image, VERSION_1)?;
-    // 2,032 bytes, which are words 256 to 509
-    assert_eq!(rt;
-        vcpu.run_to_exit(&image, &mut page, 10_000),
-        Progress::Exited
-    );
-    assert_eq!(rt; (vcpu.pending(), vcpu.steps()), (2032, 3));
-    assert_eq!(rt; unlike(&page, &OUTPUT), None);
-    let first = [
-        (116, 0x7F0),
-        (256, 0x0706_0504_0302_0100),
-        (257, 0x0F0E_0D0C_0B0A_0908),
-        (509, 0x1716_1514_1312_1110),
-        (510, 0),
-    ];
-    assert_eq!(rt; unlike(&page, &first), None);
-    reply(&mut page, &[(115, 0)]);
-    vcpu.resume(&image, &mut page);
-    assert_eq!(rt;
-        (vcpu.regs().get(Reg::Rsi), vcpu.regs().get(Reg::Rcx)),
-        (0x802, 1)
-    );
-    assert_eq!(rt; (vcpu.regs().rip, vcpu.steps()), (15, 2035));
-    // the last byte, which is in word 256 alone
-    assert_eq!(rt;
-        vcpu.run_to_exit(&image, &mut page, 10_000),
-        Progress::Exited
-    );
-    assert_eq!(rt; (vcpu.pending(), vcpu.steps()), (1, 2035));
-    assert_eq!(rt; unlike(&page, &OUTPUT), None);
-    let second = [(116, 1), (256, 0x18), (257, 0x0F0E_0D0C_0B0A_0908)];
-    assert_eq!(rt; unlike(&page, &second), None);
-    reply(&mut page, &[(115, 0)]);
-    vcpu.resume(&image, &mut page);
-    assert_eq!(rt;
-        (vcpu.regs().get(Reg::Rsi), vcpu.regs().get(Reg::Rcx)),
-        (0x803, 0)
-    );
-    assert_eq!(rt;
-        vcpu.run_to_exit(&image, &mut page, 10_000),
-        Progress::Ended
-    );
-    assert_eq!(rt; (vcpu.end(), vcpu.steps()), (Some(End::Halted), 2037));
+    let alloc = rt.alloc();
+    let image = printing(alloc)?;
+    let (mut vcpu, mut page) = met(alloc, &image, VERSION_1)?;
+    assert!(rt; talks(alloc, &image, &mut vcpu, &mut page, FIRST)?);
+    assert!(rt; talks(alloc, &image, &mut vcpu, &mut page, LAST)?);
+    assert!(rt; halts(&image, &mut vcpu, &mut page, 2037));
     Ok(())
 }
 
@@ -229,64 +226,49 @@ fn reading(alloc: Global) -> Result<Image, Fail> {
     Ok(sample_image(alloc, &code, 0, 17)?)
 }
 
+/// Whether a vCPU reads nine bytes as a row tells.
+fn reads_nine(alloc: Global, row: &str) -> Result<bool, Fail> {
+    let image = reading(alloc)?;
+    let (mut vcpu, mut page) = met(alloc, &image, VERSION_1)?;
+    let told = talks(alloc, &image, &mut vcpu, &mut page, row)?;
+    let (first, last) = (bytes_at(&vcpu, 0x100), bytes_at(&vcpu, 0x108));
+    Ok(told && first == Some(0x0807_0605_0403_0201) && last == Some(9))
+}
+
+/// Replies with these in the place of the count and the scratch address.
+const NINE: &str = "115:3F8021D 116:9 117:80000800 | 9 3 | 115:0 116:9 117:80000800 \
+    256:807060504030201 257:FFFFFFFFFFFFFF09 | 1:0 7:109 | 11 C
+115:3F8021D 116:9 117:80000800 | 9 3 | 115:0 116:3 117:0 \
+    256:807060504030201 257:FFFFFFFFFFFFFF09 | 1:0 7:109 | 11 C
+115:3F8021D 116:9 117:80000800 | 9 3 | 115:0 116:FFFFFFFFFFFFFFFF 117:100 \
+    256:807060504030201 257:FFFFFFFFFFFFFF09 | 1:0 7:109 | 11 C";
+
 #[test]
 fn the_count_and_the_scratch_address_of_a_reply_change_nothing(
     rt: HostRuntime,
 ) -> Result<(), Fail> {
-    let image = reading(rt.alloc())?;
-    for further in [
-        [(116, 9), (117, 0x8000_0800)],
-        [(116, 3), (117, 0)],
-        [(116, u64::MAX), (117, 0x100)],
-    ] {
-        let (mut vcpu, mut page) = met(rt.alloc(), &image, VERSION_1)?;
-        assert_eq!(rt; vcpu.run_to_exit(&image, &mut page, 100), Progress::Exited);
-        assert_eq!(rt;
-            unlike(&page, &[(115, 0x03F8_021D), (116, 9), (117, 0x8000_0800)]),
-            None
-        );
-        reply(&mut page, &further);
-        reply(
-            &mut page,
-            &[
-                (115, 0),
-                (256, 0x0807_0605_0403_0201),
-                (257, 0xFFFF_FFFF_FFFF_FF09),
-            ],
-        );
-        vcpu.resume(&image, &mut page);
-        assert_eq!(rt; vcpu.ram().read(0x100, 8).ok(), Some(0x0807_0605_0403_0201));
-        assert_eq!(rt; vcpu.ram().read(0x108, 8).ok(), Some(9));
-        assert_eq!(rt;
-            (vcpu.regs().get(Reg::Rdi), vcpu.regs().get(Reg::Rcx)),
-            (0x109, 0)
-        );
-        assert_eq!(rt; (vcpu.regs().rip, vcpu.steps()), (17, 12));
+    for line in NINE.lines() {
+        assert!(rt; reads_nine(rt.alloc(), line)?, "{line}");
     }
     Ok(())
 }
 
+/// #GP(0) in the place of a block: no element is placed, and the handler at 17 is entered with a frame of 48 bytes.
+const RAISED: &str =
+    "116:9 | 9 3 | 115:1 116:80000B0D 256:FFFFFFFFFFFFFFFF | 1:9 4:FD0 7:100 | 11 4";
+
 #[test]
 fn an_exception_in_the_place_of_a_block_is_delivered_once(rt: HostRuntime) -> Result<(), Fail> {
-    let image = reading(rt.alloc())?;
-    let (mut vcpu, mut page) = met(rt.alloc(), &image, VERSION_1)?;
-    assert_eq!(rt; vcpu.run_to_exit(&image, &mut page, 100), Progress::Exited);
-    assert_eq!(rt; (vcpu.pending(), vcpu.steps()), (9, 3));
-    reply(&mut page, &[(115, 1), (116, 0x8000_0B0D), (256, u64::MAX)]);
-    vcpu.resume(&image, &mut page);
-    // no element is placed; the frame has the code 0 and the address of REP INSB
+    let alloc = rt.alloc();
+    let image = reading(alloc)?;
+    let (mut vcpu, mut page) = met(alloc, &image, VERSION_1)?;
+    assert!(rt; talks(alloc, &image, &mut vcpu, &mut page, RAISED)?);
+    assert_eq!(rt; bytes_at(&vcpu, 0x100), Some(0));
+    // the frame has the code 0 and the address of REP INSB
     assert_eq!(rt;
-        (vcpu.regs().get(Reg::Rdi), vcpu.regs().get(Reg::Rcx)),
-        (0x100, 9)
+        (bytes_at(&vcpu, 0xFD0), bytes_at(&vcpu, 0xFD8)),
+        (Some(0), Some(15))
     );
-    assert_eq!(rt; vcpu.ram().read(0x100, 8).ok(), Some(0));
-    assert_eq!(rt; vcpu.regs().get(Reg::Rsp), 0x1000 - 48);
-    assert_eq!(rt; vcpu.ram().read(0x1000 - 48, 8).ok(), Some(0));
-    assert_eq!(rt; vcpu.ram().read(0x1000 - 40, 8).ok(), Some(15));
-    assert_eq!(rt; (vcpu.regs().rip, vcpu.steps()), (17, 4));
-    // nothing waits: the handler goes on
-    assert!(rt; !vcpu.waiting());
-    assert_eq!(rt; vcpu.run_to_exit(&image, &mut page, 100), Progress::Ended);
-    assert_eq!(rt; (vcpu.end(), vcpu.steps()), (Some(End::Halted), 5));
+    assert!(rt; halts(&image, &mut vcpu, &mut page, 5));
     Ok(())
 }
