@@ -1,7 +1,6 @@
 -- What the values of the guest's code mean: from each of its enums to that of the definitions.
-use Rattle.std.specs.Prelude.{◌≡◌, ℕ, ◌+◌, ◌<◌, Option, Some, None, Result, Ok, Err}
+use Rattle.std.specs.Prelude.{◌≡◌, ℕ, ◌+◌, ◌<◌, Bool, true, false, Option, Some, None, Result, Ok, Err}
 use Rattle.x86_base.specs.declared.insn.Insn.{Insn}
-use Rattle.x86_base.specs.declared.stop.Stop.{Stop as Stopped}
 use Rattle.event_table.specs.declared.end.End.{End}
 use Rattle.event_table.specs.declared.event.Event.{Event}
 use Rattle.event_table.specs.Events.{asked_by}
@@ -14,8 +13,8 @@ use Rattle.guest_interp.specs.declared.guest.Step.{Step}
 use Rattle.guest_interp.specs.declared.guest.Step.TheVariants as step
 use Rattle.guest_interp.specs.declared.guest.Stop.{Stop}
 use Rattle.guest_interp.specs.declared.guest.Stop.TheVariants as stops
-use Rattle.guest_interp.specs.declared.stepping.Tried.{Tried}
-use Rattle.guest_interp.specs.declared.stepping.Tried.TheVariants.{Over, Asks}
+use Rattle.guest_interp.specs.declared.stepping.Unfinished.{Unfinished}
+use Rattle.guest_interp.specs.declared.stepping.Unfinished.TheVariants as unfinished
 
 -- the vCPU of the code, and its counted steps
 abbrev pub vcpu_in : Guest → Vcpu
@@ -24,24 +23,23 @@ vcpu_in g = vcpu g.regs g.ram
 abbrev pub counted_vcpu : Guest → Counted
 counted_vcpu g = at_count (vcpu_in g) g.steps
 
--- what an instruction comes to by what was tried, with what is in the event's place: it is over, asks for that event,
--- or stops
-abbrev pub tried : Result Tried Stopped → Event → Vcpu → Stepped
-tried (Ok Over) event v = Moved v
-tried (Ok Asks) event v = Exits event v
-tried (Err stop) event v = Stops (end_of stop) v
+-- what an instruction comes to by whether it is over, with what it else is and with what is in the event's place: it is
+-- over, asks for that event, or stops
+abbrev pub tried : Bool → Unfinished → Event → Vcpu → Stepped
+tried true _ event v = Moved v
+tried false unfinished.Asks event v = Exits event v
+tried false (unfinished.Stops stop) event v = Stops (end_of stop) v
 
 -- the event that was asked
-abbrev pub asked_in : Result Tried Stopped → Event → Option Event
-asked_in (Ok Over) event = None
-asked_in (Ok Asks) event = Some event
-asked_in (Err stop) event = None
+abbrev pub asked_in : Bool → Unfinished → Event → Option Event
+asked_in true _ event = None
+asked_in false unfinished.Asks event = Some event
+asked_in false (unfinished.Stops stop) event = None
 
 -- nothing has changed, but where the instruction is over
-abbrev pub IsUntouched : Result Tried Stopped → Vcpu → Vcpu → Type 0
-IsUntouched (Ok Over) old new = Unit {0}
-IsUntouched (Ok Asks) old new = new ≡ old
-IsUntouched (Err stop) old new = new ≡ old
+abbrev pub IsUntouched : Bool → Vcpu → Vcpu → Type 0
+IsUntouched true old new = Unit {0}
+IsUntouched false old new = new ≡ old
 
 -- what an instruction came to, with what is in the event's place and the vCPU then
 abbrev pub as_stepped : Step → Event → Vcpu → Stepped

@@ -12,7 +12,7 @@ ghost use Rattle.guest_interp.specs.Guest.{IsNamedBy, as_placed, as_stepped, as_
 ghost use Rattle.guest_interp.specs.Guest.{steps_placed, steps_then, vcpu_in};
 
 use crate::fetching::fetch_into;
-use crate::stepping::{Tried, attempt};
+use crate::stepping::{Unfinished, attempt};
 use event_table::{End, Event, Reply, place, raise};
 use image_file::{Image, Ram};
 use string_io::place_block;
@@ -91,9 +91,9 @@ impl Guest {
         Step::Ends(end)
     }
 
-    /// One decoded instruction, with the place of the event that it may ask for.
+    /// One decoded instruction, with the places of the event that it may ask for and of what is unfinished.
     #[inline(always)]
-    fn execute(&mut self, insn: &Insn, event: &mut Event) -> Step
+    fn execute(&mut self, insn: &Insn, event: &mut Event, unfinished: &mut Unfinished) -> Step
         requires counts { self.old.steps < u64.MAX }
         requires spelled { IsSpelled insn.now }
         ensures value { as_stepped result event.new (vcpu_in self.new) ≡ stepped_by insn.now (vcpu_in self.old) }
@@ -102,21 +102,27 @@ impl Guest {
         ensures still { IsStill result (vcpu_in self.old) (vcpu_in self.new) }
         ensures named { IsNamedBy result event.new insn.now (vcpu_in self.new) }
     {
-        match attempt(&mut self.regs, &mut self.ram, insn, event) {
-            Ok(Tried::Over) => {
-                self.steps += 1;
-                Step::Goes
-            }
-            Ok(Tried::Asks) => Step::Asks,
-            Err(stop) => self.ends(end_of(stop)),
+        if attempt(&mut self.regs, &mut self.ram, insn, event, unfinished) {
+            self.steps += 1;
+            return Step::Goes;
+        }
+        match *unfinished {
+            Unfinished::Asks => Step::Asks,
+            Unfinished::Stops(stop) => self.ends(end_of(stop)),
         }
     }
 
-    /// One instruction, whose place is handed in, as is that of an event: the guest goes on, asks for an
-    /// event with nothing changed, or ends. Where it asks, the instruction that does and the event are in
-    /// their places; else what is in the event's place is unspecified.
+    /// One instruction, whose place is handed in, as are those of an event and of what is unfinished: the
+    /// guest goes on, asks for an event with nothing changed, or ends. Where it asks, the instruction that
+    /// does and the event are in their places; else what is in the event's place is unspecified, as is what
+    /// is in that of the unfinished in any case.
     #[inline(always)]
-    pub fn step_once(&mut self, insn: &mut Insn, event: &mut Event) -> Step
+    pub fn step_once(
+        &mut self,
+        insn: &mut Insn,
+        event: &mut Event,
+        unfinished: &mut Unfinished,
+    ) -> Step
         requires counts { self.old.steps < u64.MAX }
         ensures value { as_stepped result event.new (vcpu_in self.new) ≡ step_of (vcpu_in self.old) }
         ensures counted { self.new.steps ≡ steps_then result self.old.steps }
@@ -126,7 +132,7 @@ impl Guest {
         if let Err(end) = fetch_into(&self.regs, &mut self.ram, insn) {
             return self.ends(end);
         }
-        self.execute(insn, event)
+        self.execute(insn, event, unfinished)
     }
 
     /// Puts the reply to the event that the instruction at RIP asks in its places: each access is a step.
@@ -178,8 +184,9 @@ impl Guest {
         ensures lawful { IsLawfulStop result event.new self.new.steps budget }
         ensures waited { IsWaitedBy result event.new insn.new (vcpu_in self.new) }
     {
+        let mut unfinished = Unfinished::Asks;
         while self.steps < budget {
-            match self.step_once(insn, event) {
+            match self.step_once(insn, event, &mut unfinished) {
                 Step::Goes => {}
                 Step::Asks => return Stop::Waits,
                 Step::Ends(end) => return Stop::Ends(end),

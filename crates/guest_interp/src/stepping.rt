@@ -39,13 +39,13 @@ pub enum Next {
     Ended(Stop),
 }
 
-/// What one instruction comes to that doesn't stop the vCPU.
+/// What one instruction comes to that isn't over.
 #[derive(Clone, Copy, Debug, PartialEq, Eq)]
-pub enum Tried {
-    /// It is over.
-    Over,
+pub enum Unfinished {
     /// It asks for the event that is then in its place.
     Asks,
+    /// It stops the vCPU.
+    Stops(Stop),
 }
 
 /// The operation of an instruction that calculates.
@@ -124,29 +124,40 @@ fn private(regs: &mut Regs, ram: &mut Ram, insn: &Insn) -> Result<(), Stop>
     }
 }
 
-/// A string instruction: it asks for its next block, is over where REP finds RCX 0, or stops the vCPU at
-/// its first element.
+/// Whether a string instruction is over, as it is where REP finds RCX 0. Else it asks for its next block, or
+/// stops the vCPU at its first element.
+#[cold]
 #[inline(never)]
-fn string(regs: &mut Regs, ram: &Ram, insn: &Insn, event: &mut Event) -> Result<Tried, Stop>
+fn string(
+    regs: &mut Regs,
+    ram: &Ram,
+    insn: &Insn,
+    event: &mut Event,
+    unfinished: &mut Unfinished,
+) -> bool
     requires string { is_string_op insn.now.op ≡ true }
-    ensures done { tried result event.new (vcpu regs.new ram.now) ≡ stepped_by insn.now (vcpu regs.old ram.now) }
-    ensures named { asked_in result event.new ≡ asked_by insn.now (vcpu regs.old ram.now) }
-    ensures lawful { IfSome (asked_in result event.new) IsLawfulEvent }
+    ensures done { let w = vcpu regs.new ram.now in
+        tried result unfinished.new event.new w ≡ stepped_by insn.now (vcpu regs.old ram.now) }
+    ensures named { asked_in result unfinished.new event.new ≡ asked_by insn.now (vcpu regs.old ram.now) }
+    ensures lawful { IfSome (asked_in result unfinished.new event.new) IsLawfulEvent }
     ensures untouched { IsUntouched result (vcpu regs.old ram.now) (vcpu regs.new ram.now) }
 {
     if let Some(block) = block(regs, ram, insn) {
         *event = Event::Many(block);
-        return Ok(Tried::Asks);
+        *unfinished = Unfinished::Asks;
+        return false;
     }
     if left(regs, insn) == 0 {
         regs.rip = following(regs, insn);
-        return Ok(Tried::Over);
+        return true;
     }
-    Err(Stop::BadAddress(regs.get(pointer(insn))))
+    *unfinished = Unfinished::Stops(Stop::BadAddress(regs.get(pointer(insn))));
+    false
 }
 
 /// Whether an instruction is a move that reaches the page of devices. Then it asks for the access that
 /// is in the event's place.
+#[cold]
 #[inline(never)]
 fn reaches_page(regs: &Regs, ram: &Ram, insn: &Insn, event: &mut Event) -> bool
     ensures moves { IsTrue result → is_move_op insn.now.op ≡ true }
@@ -164,34 +175,39 @@ fn reaches_page(regs: &Regs, ram: &Ram, insn: &Insn, event: &mut Event) -> bool
     false
 }
 
-/// An instruction that has no event of registers: it is private, or a move that reaches the page of
-/// devices.
+/// Whether an instruction is over that has no event of registers: it is private, or a move that reaches
+/// the page of devices. The place of what it else comes to is handed in, since a result that is built in
+/// memory would be tested again in each step.
 #[inline(always)]
 fn attempt_private(
     regs: &mut Regs,
     ram: &mut Ram,
     insn: &Insn,
     event: &mut Event,
-) -> Result<Tried, Stop>
+    unfinished: &mut Unfinished,
+) -> bool
     requires condition { HasCondition insn.now.op }
     requires string { is_string_op insn.now.op ≡ false }
     requires private { kind_at insn.now.op insn.now.width 0 ≡ None }
-    ensures done { tried result event.new (vcpu regs.new ram.new) ≡ stepped_by insn.now (vcpu regs.old ram.old) }
-    ensures named { asked_in result event.new ≡ asked_by insn.now (vcpu regs.old ram.old) }
-    ensures lawful { IfSome (asked_in result event.new) IsLawfulEvent }
+    ensures done { let w = vcpu regs.new ram.new in
+        tried result unfinished.new event.new w ≡ stepped_by insn.now (vcpu regs.old ram.old) }
+    ensures named { asked_in result unfinished.new event.new ≡ asked_by insn.now (vcpu regs.old ram.old) }
+    ensures lawful { IfSome (asked_in result unfinished.new event.new) IsLawfulEvent }
     ensures untouched { IsUntouched result (vcpu regs.old ram.old) (vcpu regs.new ram.new) }
 {
     // What lies in RAM is private, so that no move there is tested for the page.
     let Err(stop) = private(regs, ram, insn) else {
-        return Ok(Tried::Over);
+        return true;
     };
+    *unfinished = Unfinished::Stops(stop);
     if reaches_page(regs, ram, insn, event) {
-        return Ok(Tried::Asks);
+        *unfinished = Unfinished::Asks;
     }
-    Err(stop)
+    false
 }
 
 /// Puts the event of an instruction that exits with its data in registers in its place.
+#[cold]
 #[inline(never)]
 fn ask_registers(regs: &Regs, ram: &Ram, insn: &Insn, event: &mut Event)
     requires event { is_some (kind_at insn.now.op insn.now.width 0) ≡ true }
@@ -205,30 +221,33 @@ fn ask_registers(regs: &Regs, ram: &Ram, insn: &Insn, event: &mut Event)
     }
 }
 
-/// What one instruction, which was decoded at RIP, comes to: it is over, asks for the event that is then
-/// in the place handed in, or stops the vCPU. Nothing else changes but where it is over.
+/// Whether one instruction, which was decoded at RIP, is over. Else it asks for the event that is then in the
+/// place handed in, or stops the vCPU, as the place of what is unfinished says, and nothing else changes.
 #[inline(always)]
 pub fn attempt(
     regs: &mut Regs,
     ram: &mut Ram,
     insn: &Insn,
     event: &mut Event,
-) -> Result<Tried, Stop>
+    unfinished: &mut Unfinished,
+) -> bool
     requires spelled { IsSpelled insn.now }
-    ensures done { tried result event.new (vcpu regs.new ram.new) ≡ stepped_by insn.now (vcpu regs.old ram.old) }
-    ensures named { asked_in result event.new ≡ asked_by insn.now (vcpu regs.old ram.old) }
-    ensures lawful { IfSome (asked_in result event.new) IsLawfulEvent }
+    ensures done { let w = vcpu regs.new ram.new in
+        tried result unfinished.new event.new w ≡ stepped_by insn.now (vcpu regs.old ram.old) }
+    ensures named { asked_in result unfinished.new event.new ≡ asked_by insn.now (vcpu regs.old ram.old) }
+    ensures lawful { IfSome (asked_in result unfinished.new event.new) IsLawfulEvent }
     ensures untouched { IsUntouched result (vcpu regs.old ram.old) (vcpu regs.new ram.new) }
 {
     if is_string(insn) {
-        return string(regs, ram, insn, event);
+        return string(regs, ram, insn, event, unfinished);
     }
     if is_event(insn) {
         ask_registers(regs, ram, insn, event);
-        return Ok(Tried::Asks);
+        *unfinished = Unfinished::Asks;
+        return false;
     }
     conditions();
-    attempt_private(regs, ram, insn, event)
+    attempt_private(regs, ram, insn, event, unfinished)
 }
 
 /// One instruction, which was decoded at RIP. `Vc` comes exactly where it asks for an event, which is where
@@ -240,9 +259,12 @@ pub fn step(regs: &mut Regs, ram: &mut Ram, insn: &Insn) -> Next
     ensures accessed { is_vc result ≡ is_some (asked_apart insn.now (vcpu regs.old ram.old)) }
 {
     let mut event = Event::One(Access::Wbinvd);
-    match attempt(regs, ram, insn, &mut event) {
-        Ok(Tried::Over) => Next::Went,
-        Ok(Tried::Asks) => Next::Vc(vc_code(&event)),
-        Err(stop) => Next::Ended(stop),
+    let mut unfinished = Unfinished::Asks;
+    if attempt(regs, ram, insn, &mut event, &mut unfinished) {
+        return Next::Went;
+    }
+    match unfinished {
+        Unfinished::Asks => Next::Vc(vc_code(&event)),
+        Unfinished::Stops(stop) => Next::Ended(stop),
     }
 }

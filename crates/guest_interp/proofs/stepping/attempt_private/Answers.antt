@@ -13,8 +13,8 @@ returns-then-reaches_page-clause-done c =
     (c.if-reaches_page.ensures.moves refl) (c.if-reaches_page.ensures.named (c.if-reaches_page.ensures.moves refl))
     ∙ ap (λ (v : Vcpu). stepped_by c.args.insn.now v) c.in-Err.ensures.kept
 
-pub returns-clause-done : goal.returns-clause-done
-returns-clause-done c =
+pub returns-else-reaches_page-clause-done : goal.returns-else-reaches_page-clause-done
+returns-else-reaches_page-clause-done c =
     let stays = c.in-Err.ensures.kept in
     let stops : Vcpu → Stepped = λ v. Stops (end_of c.in-Err.stop) v in
     ap stops stays
