@@ -1,7 +1,6 @@
-use Rattle.std.proofs.Common.{◌%◌, take, arith, sym, subst, All, List}
+use Rattle.std.proofs.Common.{◌%◌, take, arith, sym, subst, All}
 use Rattle.std.proofs.lemmas.Grind.{common_steps}
 use Rattle.std.proofs.lemmas.List.Elements.{All-set}
-use Rattle.image_file.specs.declared.kept.Kept.{Kept}
 use Rattle.image_file.specs.Kept.{IsKeptInsn, StandsAt, kept_insn}
 use Rattle.image_file.proofs.ram.Ram.decode_at.Goals as goal
 
