@@ -10,7 +10,7 @@ use crate::answer::{Answer, in_edx_eax, in_rax, no_result, raise_gp};
 use crate::cpuid::cpuid;
 use crate::msr::{TSC, TSC_AUX, clock, is_scratch_msr, scratch_place};
 use crate::port::{all_ones, is_data, is_mailbox, is_status, mailbox};
-use event_table::Access;
+use event_table::{Access, PAGE_START};
 use image_file::{MOST_VCPUS, read_number, write_number};
 use std::alloc::{AllocError as OutOfMemory, Global};
 use std::marker::Model;
@@ -21,9 +21,7 @@ const VCPUS: usize = MOST_VCPUS as usize;
 /// The four words of each vCPU.
 const SCRATCH: usize = 4 * VCPUS;
 
-/// The address of the page of devices, and its bytes.
-const PAGE_START: u64 = 0xFEB0_0000;
-
+/// How many bytes the page of devices has.
 const PAGE_SIZE: usize = 4096;
 
 /// A console with an input, a clock that counts accesses, eight mailboxes and a page of bytes that all

@@ -55,13 +55,14 @@ row shows results width code info = record {
   width = width;
 }
 
--- the row of an event with its data in the shared buffer: SW_EXITINFO2 is a count, SW_SCRATCH names the buffer, and no
--- register is shown or comes back
+-- the row of an event with its data in the shared buffer: SW_EXITINFO2 is a count or a length, SW_SCRATCH names the
+-- buffer, and no register is shown or comes back
 abbrev pub buffer_row : ExitCode → ℕ → ℕ → Row
 buffer_row code info count =
     record (row (shows 0 0 0 0 0) (results 0 0 0 0) B64 code info) { count = count; scratch = true }
 
--- THE TABLE: shown are CPL RAX RCX RDX XCR0, and RAX RCX RDX RBX come back. Each row stands in the section of its comment's name.
+-- THE TABLE: shown are CPL RAX RCX RDX XCR0, and RAX RCX RDX RBX come back. Each row stands in the section of its
+-- comment's name.
 abbrev pub event_row : Kind → Row
 -- IOIO_PROT
 event_row (kind.Out port size) =

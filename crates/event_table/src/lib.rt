@@ -37,7 +37,7 @@ pub use elements::{is_input, is_string, left, next_address, pointer, port_size};
 pub use end::{End, Reason};
 pub use event::Event;
 pub use exits::{is_event, named, place};
-pub use moves::{extend, is_move, named_move, sign_extended};
+pub use moves::{PAGE_START, extend, is_move, named_move, sign_extended};
 pub use outcome::{Outcome, Reply};
 pub use places::{Place, find, following, load, store};
 pub use raising::raise;

@@ -15,9 +15,10 @@ use crate::places::{Place, find, following, load, store};
 use image_file::Ram;
 use x86_base::{Insn, Op, Regs, Width};
 
-/// The page of devices: its first address, and that behind its last.
-const PAGE_START: u64 = 0xFEB0_0000;
+/// The first address of the page of devices.
+pub const PAGE_START: u64 = 0xFEB0_0000;
 
+/// The address behind the last of the page of devices.
 const PAGE_END: u64 = 0xFEB0_1000;
 
 /// Whether an instruction may reach the page of devices: MOV, MOVZX and MOVSX.
