@@ -3,5 +3,7 @@ pub mod Full
 pub mod Over
 pub mod PlainEnds
 pub mod PlainRounds
+pub mod Runs
 pub mod Singles
 pub mod Staying
+pub mod Turns

@@ -156,7 +156,7 @@ ended_good budget [] all = refl
 ended_good budget (Waits e v ∷ ss) all = absurd (omega (arith, all.0.from, all.0.under))
 ended_good budget (Ended end v ∷ ss) all = ended_good budget ss all.1
 
-length-first_stops : (image : Contents) (budget i n : ℕ) → length (first_stops image budget i n) ≡ n
+pub length-first_stops : (image : Contents) (budget i n : ℕ) → length (first_stops image budget i n) ≡ n
 length-first_stops image budget i zero = refl
 length-first_stops image budget i (suc n) = let rest : length (first_stops image budget (i + 1) n) ≡ n = length-first_stops image budget (i + 1) n in omega arith
 

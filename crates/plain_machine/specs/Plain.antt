@@ -9,7 +9,7 @@ use Rattle.event_table.specs.Plan.{Moved}
 use Rattle.event_table.specs.declared.turn.Entry.{Entry}
 use Rattle.device_bus.specs.Devices.{Devices, opening}
 use Rattle.event_table.specs.Turns.{turns_of}
-use Rattle.device_bus.specs.History.{IsLegal}
+use Rattle.device_bus.specs.History.{IsLegal, after_event}
 use Rattle.guest_interp.specs.Stepping.{start_of, Counted, Standstill, Waits, Ended, stop_answered, next_within}
 use Rattle.plain_machine.specs.Single.{Accessed, at_once, singles}
 
@@ -25,7 +25,11 @@ first_stops image budget i zero = []
 first_stops image budget i (suc more) = next_within budget (start_of image i) ∷ first_stops image budget (i + 1) more
 
 abbrev pub machine_at_start : Contents → ℕ → List ℕ → Machine
-machine_at_start image budget input = record { stops = first_stops image budget 0 image.header.vcpus; devices = opening image.header.vcpus input; events = [] }
+machine_at_start image budget input = record {
+  stops = first_stops image budget 0 image.header.vcpus;
+  devices = opening image.header.vcpus input;
+  events = [];
+}
 
 -- where a vCPU stops next, once its event came to this
 abbrev pub stop_by : ℕ → Event → Counted → Accessed → Standstill
@@ -33,6 +37,19 @@ stop_by budget event c a = stop_answered (count_of event) c.steps a.stands (λ g
 
 abbrev pub stop_after_event : Contents → ℕ → ℕ → Event → Counted → Devices → Standstill
 stop_after_event image budget i event c devices = stop_by budget event c (at_once image i event c.vcpu devices)
+
+-- Where it stops once it got its item, the devices then, and the item: one that has ended gets none and stays.
+abbrev pub stop_then : Contents → ℕ → ℕ → Standstill → Devices → Standstill
+stop_then image budget i (Waits event c) devices = stop_after_event image budget i event c devices
+stop_then image budget i (Ended end c) devices = Ended end c
+
+abbrev pub devices_then : ℕ → Standstill → Devices → Devices
+devices_then i (Waits event c) devices = after_event devices i event
+devices_then i (Ended end c) devices = devices
+
+abbrev pub turns_then : ℕ → Standstill → List Turn
+turns_then i (Waits event c) = record { vcpu = i; count = count_of event } ∷ []
+turns_then i (Ended end c) = []
 
 -- the event of vCPU i is done
 abbrev pub event_done : ℕ → ℕ → Event → Counted → Machine → Accessed → Machine
@@ -70,12 +87,15 @@ all_ended (stop ∷ stops) = has_ended stop && all_ended stops
 abbrev pub where_ended : Machine → Option Machine
 where_ended m = if all_ended m.stops then Some m else None
 
--- The plain run along an order: none where an item's vCPU doesn't wait for such an event, or a vCPU hasn't ended after the order.
+-- The plain run along an order: none where an item's vCPU doesn't wait for such an event, or a vCPU hasn't ended after
+-- the order.
 abbrev pub plain_run : Contents → ℕ → List ℕ → List Turn → Option Machine
-plain_run image budget input order = option_and_then where_ended (along image budget order (machine_at_start image budget input))
+plain_run image budget input order =
+    option_and_then where_ended (along image budget order (machine_at_start image budget input))
 
 abbrev pub visit_where : Contents → ℕ → ℕ → Option Standstill → Machine → Machine
-visit_where image budget i (Some (Waits event c)) m = event_done budget i event c m (at_once image i event c.vcpu m.devices)
+visit_where image budget i (Some (Waits event c)) m =
+    event_done budget i event c m (at_once image i event c.vcpu m.devices)
 visit_where image budget i (Some (Ended end c)) m = m
 visit_where image budget i None m = m
 
@@ -109,6 +129,11 @@ vcpu_of (Ended end c) = c
 abbrev pub steps_of : List Standstill → List ℕ
 steps_of [] = []
 steps_of (stop ∷ stops) = (vcpu_of stop).steps ∷ steps_of stops
+
+-- the end, where it has ended
+abbrev pub end_of : Standstill → Option End
+end_of (Waits event c) = None
+end_of (Ended end c) = Some end
 
 -- the ends of those that have ended, by their numbers
 abbrev pub ends_of : List Standstill → List End

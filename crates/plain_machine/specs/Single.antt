@@ -1,5 +1,5 @@
--- Single accesses, each element of string I/O one: what the plain run does of an event. What the two ends of a page do of
--- it is done at once.
+-- Single accesses, each element of string I/O one: what the plain run does of an event. What the two ends of a page do
+-- of it is done at once.
 use Rattle.std.specs.Prelude.{◌≡◌, ℕ, zero, suc, length, Option, Some, None, option_and_then, Result, Ok, Err}
 use Rattle.x86_base.specs.declared.insn.Insn.{Insn}
 use Rattle.image_file.specs.Image.{Contents}
@@ -46,7 +46,8 @@ single_by image i (Some (One access)) v plan d =
 single_by image i (Some (Many block)) v plan d = None
 single_by image i None v plan d = None
 
--- One access of vCPU i: it must ask for one, the devices answer, and the results are placed or the exception is delivered.
+-- One access of vCPU i: it must ask for one, the devices answer, and the results are placed or the exception is
+-- delivered.
 abbrev pub single : Contents → ℕ → Vcpu → Devices → Option Accessed
 single image i v d = single_by image i (event_asked v (alone_at v)) v (alone_at v) d
 
