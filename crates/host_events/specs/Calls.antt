@@ -30,8 +30,8 @@ pub record PageRule : Type 0 where
 abbrev pub page_rule : Bool → BadPage → PageRule
 page_rule holds bad = record { holds = holds; bad = bad }
 
--- The rules of data in the shared buffer, in order: SW_SCRATCH is there, and names the buffer in the page of vCPU i; and
--- the count or the bytes that the exit infos name are allowed.
+-- The rules of data in the shared buffer, in order: SW_SCRATCH is there, and names the buffer in the page of vCPU i;
+-- and the count or the bytes that the exit infos name are allowed.
 abbrev pub buffer_rules : ℕ → Kind → (ℕ → ℕ) → Bitmap → List PageRule
 buffer_rules i kind word bitmap =
     page_rule (has_scratch (event_row kind) bitmap) Missing

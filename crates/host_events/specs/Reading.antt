@@ -71,8 +71,8 @@ msr_kind info =
     if info == 1 then Some kind.Wrmsr else
     None
 
--- SW_EXITINFO1 tells more of port I/O and of an MSR alone, and SW_EXITINFO2 is the count of string I/O. Of MMIO they are
--- the address and the bytes.
+-- SW_EXITINFO1 tells more of port I/O and of an MSR alone, and SW_EXITINFO2 is the count of string I/O. Of MMIO they
+-- are the address and the bytes.
 abbrev pub kind_by : Result code.ExitCode UnknownCode → ℕ → ℕ → Option Kind
 kind_by (Ok codes.Io) info count = io_kind (info_of info) count
 kind_by (Ok codes.Msr) info count = msr_kind info

@@ -7,13 +7,12 @@ ghost use Rattle.host_events.specs.Hypervised.{after_asked, telling};
 ghost use Rattle.host_events.specs.Reading.{IsMmio, IsString, event_in, word_in};
 ghost use Rattle.host_events.specs.Served.{reply};
 
-use crate::answering::block_bytes;
 use crate::event::{access_in, block_in, is_string};
 use crate::history::History;
 use crate::reading::read_request;
 use crate::reply::{cpuid_response, sev_info, store_buffer_reply, store_refusal, store_reply};
 use crate::{Host, Request};
-use device_bus::Bus;
+use device_bus::{Bus, block_bytes};
 use event_table::{Kind, Turn};
 use page_words::Words;
 use std::alloc::{AllocError as OutOfMemory, Global};

@@ -5,7 +5,6 @@
 //! `specs/Served.antt` what is left of the page.
 #![tactic(auto)]
 
-mod answering;
 #[cfg(test)]
 mod block_tests;
 mod buffer;
@@ -20,6 +19,7 @@ mod reply;
 mod request;
 #[cfg(test)]
 mod tests;
+mod watch;
 
 pub use device_bus::cpuid_register;
 pub use event::event_in;
@@ -28,3 +28,4 @@ pub use host::Host;
 pub use hypervisor::Hypervisor;
 pub use reading::read_request;
 pub use request::{BadPage, Request};
+pub use watch::Watch;

@@ -10,7 +10,7 @@ ghost use Rattle.host_events.specs.Calls as rules;
 ghost use Rattle.host_events.specs.Calls.{IsLawfulRequest, buffer_rules, call_of, call_on, first_broken_rule, kind_rules, page_rules};
 
 use crate::{BadPage, Request};
-use event_table::{Kind, Row, row_of};
+use event_table::{Kind, PAGE_START, Row, row_of};
 use exit_info::{ExitCode, IoInfo, UnknownCode};
 use ghcb_layout::{Bitmap, Field, bit_of, ghcb_of, protocol_of, word_of};
 use msr_protocol::{MsrWord, read};
@@ -19,10 +19,7 @@ use page_words::{Word, Words};
 /// Where the shared buffer begins in a page (AMD 56421, "GHCB Layout").
 const BUFFER: u64 = 0x800;
 
-/// Where the page of devices begins.
-const PAGE_START: u64 = 0xFEB0_0000;
-
-/// How many bytes it has.
+/// How many bytes the page of devices has.
 const PAGE_SIZE: u64 = 0x1000;
 
 /// The word of a field.
