@@ -1,4 +1,5 @@
-pub mod Visiting
 pub mod Meeting
+pub mod Talking
+pub mod Visiting
 pub mod Seating
 pub mod Starting

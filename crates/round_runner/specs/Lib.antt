@@ -1,3 +1,4 @@
+pub mod Pages
 pub mod Standing
 pub mod Ran
 pub mod Started

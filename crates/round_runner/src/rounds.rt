@@ -1,71 +1,39 @@
 // A run in rounds.
-ghost use Rattle.std.specs.Prelude.{◌≡◌, ◌-◌, ◌^◌, ◌<◌, ◌≤◌, length, map, unwrap_or, is_some, IsSome, OnOk, OnErr, IfOk};
+ghost use Rattle.std.specs.Prelude.{◌≡◌, ◌-◌, ◌^◌, ◌≤◌, ℕ, length, map, unwrap_or, is_some, OnOk, OnErr, IfOk};
 ghost use Rattle.std.specs.List.{list_all};
 ghost use Rattle.event_table.specs.declared.end.End.TheVariants.{Spent as spent};
 ghost use Rattle.host_events.specs.Hosting.{IsTelling};
-ghost use Rattle.guest_interp.specs.Stepping.{next_within, start_of};
+ghost use Rattle.device_bus.specs.Devices.{Devices};
 ghost use Rattle.vcpu_core.specs.State.{end_in};
-ghost use Rattle.plain_machine.specs.Plain.{Machine, visits, first_stops};
+ghost use Rattle.plain_machine.specs.Plain.{Machine};
+ghost use Rattle.round_runner.specs.Pages.{exchange};
 ghost use Rattle.round_runner.specs.Started.{IsAsBeforeOrStarted, StaysStarted};
-ghost use Rattle.round_runner.specs.Standing.{IsVcpuAt, AreAt, AreNumbered, Stands};
+ghost use Rattle.round_runner.specs.Standing.{AreFresh, AreNumbered, Stands, next_by, visits_by};
 ghost use Rattle.round_runner.specs.Ran.{RanRounds};
 
-use crate::vcpu_on_page::{VcpuOnPage, agree_version, serve_turn};
+use crate::vcpu_on_page::{VcpuOnPage, first_exit, serve_turn};
 use event_table::{End, Finished, Turn};
 use host_events::Host;
 use image_file::Image;
 use std::alloc::{AllocError as OutOfMemory, Global};
 
-/// A vCPU that has met the host, at its first event or its end.
-fn seat_of<H: Host>(
-    alloc: Global,
-    image: &Image,
-    number: u16,
-    budget: u64,
-    host: &mut H,
-) -> Result<VcpuOnPage, OutOfMemory>
-    requires known { number < (H.told host.old).vcpus }
-    requires budget { budget ≤ 2 ^ 64 - 2032 }
-    ensures number { IfOk result (λ seat. seat.vcpu.number ≡ number) }
-    ensures at { IsSome (H.told host.old).devices → IfOk result (λ seat.
-        IsVcpuAt number seat (next_within budget (start_of image.now number))) }
-    ensures devices { OnOk result ((H.told host.new).devices ≡ (H.told host.old).devices) }
-    ensures history { OnOk result ((H.told host.new).history ≡ (H.told host.old).history) }
-    ensures vcpus { (H.told host.new).vcpus ≡ (H.told host.old).vcpus }
-    ensures started { StaysStarted (H.told host.old) (H.told host.new) }
-{
-    let ram = image.ram(alloc)?;
-    let mut seat = agree_version(image, number, ram, host)?;
-    seat.vcpu.run_to_exit(image, &mut seat.page, budget);
-    Ok(seat)
-}
+/// How many exchanges a vCPU has with the host before its first event.
+const EXCHANGES: u16 = 1;
 
-/// Each vCPU has met the host, in ascending number, and is at its first event or its end.
-fn open<H: Host>(
-    alloc: Global,
-    image: &Image,
-    budget: u64,
-    host: &mut H,
-) -> Result<Vec<VcpuOnPage>, OutOfMemory>
-    requires hosted { (H.told host.old).vcpus ≡ image.now.header.vcpus }
-    requires budget { budget ≤ 2 ^ 64 - 2032 }
-    ensures at { IsSome (H.told host.old).devices → IfOk result (λ seats.
-        AreAt 0 seats.items (first_stops image.now budget 0 image.now.header.vcpus)) }
-    ensures numbered { IfOk result (λ seats. AreNumbered 0 seats.items) }
+/// Each vCPU at its first exit.
+fn open(alloc: Global, image: &Image) -> Result<Vec<VcpuOnPage>, OutOfMemory>
+    ensures fresh { IfOk result (λ seats. AreFresh image.now 0 seats.items) }
     ensures many { IfOk result (λ seats. length seats.items ≡ image.now.header.vcpus) }
-    ensures devices { OnOk result ((H.told host.new).devices ≡ (H.told host.old).devices) }
-    ensures history { OnOk result ((H.told host.new).history ≡ (H.told host.old).history) }
-    ensures hosted { (H.told host.new).vcpus ≡ image.now.header.vcpus }
-    ensures started { StaysStarted (H.told host.old) (H.told host.new) }
 {
     let mut seats = Vec::new(alloc);
     for number in 0..image.vcpus() {
-        seats.push(seat_of(alloc, image, number, budget, host)?)?;
+        let ram = image.ram(alloc)?;
+        seats.push(first_exit(image, number, ram))?;
     }
     Ok(seats)
 }
 
-/// One round: each vCPU that waits gets one item, in ascending number.
+/// One round: each vCPU that waits is served, in ascending number.
 fn round<H: Host>(
     image: &Image,
     budget: u64,
@@ -77,9 +45,10 @@ fn round<H: Host>(
     requires numbered { AreNumbered 0 seats.old }
     requires hosted { (H.told host.old).vcpus ≡ image.now.header.vcpus }
     requires budget { budget ≤ 2 ^ 64 - 2032 }
-    ensures ok { (m : Machine) → Stands seats.old (H.told host.old) order.old.items m
-        → OnOk result (Stands seats.new (H.told host.new) order.new.items
-        (visits image.now budget image.now.header.vcpus m)) }
+    ensures ok { (d : Devices) (n : ℕ) (m : Machine)
+        → Stands image.now budget d n 0 seats.old (H.told host.old) order.old.items m
+        → OnOk result (Stands image.now budget d (next_by (exchange n) n) 0 seats.new (H.told host.new) order.new.items
+        (visits_by (exchange n) image.now budget image.now.header.vcpus m)) }
     ensures numbered { AreNumbered 0 seats.new }
     ensures hosted { (H.told host.new).vcpus ≡ image.now.header.vcpus }
     ensures started { StaysStarted (H.told host.old) (H.told host.new) }
@@ -149,8 +118,11 @@ pub fn run_rounds<H: Host>(
     ensures refused { OnErr result (IsAsBeforeOrStarted image.now input.items (H.told host.old) (H.told host.new)) }
 {
     host.start(image.vcpus(), input)?;
-    let mut seats = open(alloc, image, budget, host)?;
+    let mut seats = open(alloc, image)?;
     let mut order = Vec::new(alloc);
+    for met in 0..EXCHANGES {
+        round(image, budget, &mut seats, host, &mut order)?;
+    }
     for done in 0..budget {
         if have_ended(&seats) {
             return finish(alloc, &seats, order);

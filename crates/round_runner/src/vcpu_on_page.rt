@@ -1,13 +1,17 @@
 // A vCPU with its page.
-ghost use Rattle.std.specs.Prelude.{◌≡◌, ◌-◌, ◌^◌, ◌<◌, ◌≤◌, length, IfOk, IsSome, OnOk};
+ghost use Rattle.std.specs.Prelude.{◌≡◌, ◌-◌, ◌^◌, ◌<◌, ◌≤◌, ℕ, [], ◌∷◌, OnOk};
+ghost use Rattle.page_words.specs.declared.item.Item.TheVariants.{Exit};
+ghost use Rattle.page_words.specs.Told.{blank, kept_after_all};
 ghost use Rattle.image_file.specs.Format.{most_vcpus};
 ghost use Rattle.image_file.specs.Image.{opening_ram};
 ghost use Rattle.guest_interp.specs.Stepping.{Standstill, start_of};
+ghost use Rattle.device_bus.specs.Devices.{Devices};
+ghost use Rattle.vc_handler.specs.Version.{question};
 ghost use Rattle.vcpu_core.specs.Phase as phases;
 ghost use Rattle.vcpu_core.specs.State.{state};
-ghost use Rattle.plain_machine.specs.Plain.{Machine, visit_where};
+ghost use Rattle.plain_machine.specs.Plain.{Machine};
 ghost use Rattle.round_runner.specs.Started.{StaysStarted};
-ghost use Rattle.round_runner.specs.Standing.{IsVcpuAt, Tells, stop_then};
+ghost use Rattle.round_runner.specs.Standing.{AreOthers, IsVcpuAt, Tells, Visited, pushed};
 
 use both_ends::agree;
 use event_table::Turn;
@@ -24,36 +28,31 @@ pub struct VcpuOnPage {
     pub page: Words,
 }
 
-/// A vCPU over a page of zeros, once it has asked the host for its versions: it goes on at version 1, and
-/// has ended where the host doesn't offer that.
-pub fn agree_version<H: Host>(
-    image: &Image,
-    number: u16,
-    ram: Ram,
-    host: &mut H,
-) -> Result<VcpuOnPage, OutOfMemory>
+/// A new vCPU over a page of zeros, at its first exit: it asks the host for its versions.
+pub fn first_exit(image: &Image, number: u16, ram: Ram) -> VcpuOnPage
     requires opening { ram ≡ opening_ram image.now }
-    requires known { number < (H.told host.old).vcpus }
-    ensures number { IfOk result (λ seat. seat.vcpu.number ≡ number) }
-    // A host that tells its devices offers it.
-    ensures met { IsSome (H.told host.old).devices → IfOk result (λ seat.
-        (seat.vcpu ≡ state number (start_of image.now number) phases.Going) × (length seat.page.words ≡ 512)) }
-    ensures devices { OnOk result ((H.told host.new).devices ≡ (H.told host.old).devices) }
-    ensures history { OnOk result ((H.told host.new).history ≡ (H.told host.old).history) }
-    ensures vcpus { (H.told host.new).vcpus ≡ (H.told host.old).vcpus }
-    ensures started { StaysStarted (H.told host.old) (H.told host.new) }
+    ensures vcpu { result.vcpu ≡ state number (start_of image.now number) phases.Asked }
+    ensures page { result.page ≡ kept_after_all blank (Exit question ∷ []) }
 {
     let mut vcpu = Vcpu::new(image, number, ram);
     let mut page = Words::new();
     // It takes no step before it has asked.
     vcpu.run_to_exit(image, &mut page, 0);
-    host.serve(number, &mut page)?;
-    vcpu.resume(image, &mut page);
-    Ok(VcpuOnPage { vcpu, page })
+    VcpuOnPage { vcpu, page }
 }
 
-/// Gives a vCPU one item if it waits: its page is served, the reply is taken, and it goes on to its
-/// next stop.
+/// Notes an item of the order, where there are accesses.
+fn note(order: &mut Vec<Turn>, vcpu: u16, count: u16) -> Result<(), OutOfMemory>
+    ensures order { OnOk result (order.new.items ≡ pushed vcpu count order.old.items) }
+{
+    if count > 0 {
+        order.push(Turn { vcpu, count })?;
+    }
+    Ok(())
+}
+
+/// Serves a vCPU that waits: it takes the reply, and goes on to its next exit or its end. An event is an
+/// item of the order, and an exchange of versions isn't.
 pub fn serve_turn<H: Host>(
     image: &Image,
     budget: u64,
@@ -66,11 +65,11 @@ pub fn serve_turn<H: Host>(
     requires known { seat.old.vcpu.number < (H.told host.old).vcpus }
     requires few { seat.old.vcpu.number < most_vcpus }
     requires budget { budget ≤ 2 ^ 64 - 2032 }
-    ensures ok { (m : Machine) (stop : Standstill) → IsVcpuAt seat.old.vcpu.number seat.old stop
-        → Tells (H.told host.old) order.old.items m
-        → OnOk result (IsVcpuAt seat.old.vcpu.number seat.new
-        (stop_then image.now budget seat.old.vcpu.number stop m.devices)
-        × Tells (H.told host.new) order.new.items (visit_where image.now budget seat.old.vcpu.number (Some stop) m)) }
+    ensures ok { (d : Devices) (n : ℕ) (m : Machine) (stop : Standstill)
+        → IsVcpuAt image.now budget d (H.told host.old) m.events n seat.old.vcpu.number seat.old stop
+        → Tells d (H.told host.old) order.old.items m → OnOk result
+        (Visited image.now budget d n seat.old.vcpu.number stop m seat.new (H.told host.new) order.new.items) }
+    ensures others { OnOk result (AreOthers seat.old.vcpu.number (H.told host.old) (H.told host.new)) }
     ensures number { seat.new.vcpu.number ≡ seat.old.vcpu.number }
     ensures vcpus { (H.told host.new).vcpus ≡ (H.told host.old).vcpus }
     ensures started { StaysStarted (H.told host.old) (H.told host.new) }
@@ -78,10 +77,7 @@ pub fn serve_turn<H: Host>(
     if seat.vcpu.waiting() {
         agree();
         host.serve(number, &mut seat.page)?;
-        order.push(Turn {
-            vcpu: number,
-            count: seat.vcpu.pending(),
-        })?;
+        note(order, number, seat.vcpu.pending())?;
         seat.vcpu.resume(image, &mut seat.page);
         seat.vcpu.run_to_exit(image, &mut seat.page, budget);
     }
