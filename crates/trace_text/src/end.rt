@@ -22,7 +22,7 @@ fn push_reason(text: &mut Text, reason: &Reason)
 }
 
 /// Appends how a vCPU ended.
-fn push_how(text: &mut Text, end: &End)
+pub fn push_end(text: &mut Text, end: &End)
     requires room { length text.old + 200 ≤ 4096 }
     ensures text { text.new ≡ text.old ++ end_text end.now }
     ensures size { length text.new ≤ length text.old + 200 }
@@ -46,7 +46,7 @@ pub fn end_line_of(end: &End, steps: u64) -> Text
 {
     let mut text = Text::new();
     text.push_str("end ");
-    push_how(&mut text, end);
+    push_end(&mut text, end);
     text.push_number(" steps ", steps);
     text.push_str("\n");
     text

@@ -7,4 +7,5 @@ mod end;
 mod tests;
 mod trace;
 
+pub use end::push_end;
 pub use trace::trace_text;
