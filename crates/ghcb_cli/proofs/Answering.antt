@@ -1,11 +1,11 @@
 -- What the program is to say, from what its parts found.
-use Rattle.std.proofs.Common.{◌≡◌, ℕ, ◌⊎◌, inl, inr, List, Option, Some, None, Result, Ok, Err, refl, sym, ap, ◌∙◌}
+use Rattle.std.proofs.Common.{◌≡◌, ℕ, ◌⊎◌, Bool, false, inl, inr, List, Option, Some, None, Result, Ok, Err, refl, sym, ap, ◌∙◌}
 use Rattle.std.specs.Prelude.{IfSome, option_map}
 use Rattle.std.proofs.lemmas.Option.{same_Some}
 use Rattle.image_file.specs.Image.{Contents}
 use Rattle.host_events.specs.Hosting.{Hosting}
 use Rattle.ghcb_cli.specs.declared.command.Command.{Command}
-use Rattle.ghcb_cli.specs.declared.command.Command.TheVariants.{Run, Hostile, ShowPage, ShowMsr, ShowInfo}
+use Rattle.ghcb_cli.specs.declared.command.Command.TheVariants.{Run, Plain, Hostile, ShowPage, ShowMsr, ShowInfo}
 use Rattle.ghcb_cli.specs.declared.text.Refused.{Refused}
 use Rattle.ghcb_cli.specs.Command.{command_of, reading_by, reading_of, command_word}
 use Rattle.ghcb_cli.specs.Ending.{IsKnown, IsText}
@@ -13,8 +13,11 @@ use Rattle.ghcb_cli.specs.Files.{Folder, Holds, AreRefused, IsAbsent, IsFirstRef
 use Rattle.ghcb_cli.specs.Said.{Said, Making, IsMadeBy, running, answering, said_with, said_of_files, said_by, said_over, said, says_usage, says_refused, says_output, IsToEnd}
 use Rattle.ghcb_cli.specs.Text.{usage}
 
-pub made_by_run : (steps : ℕ) → IsMadeBy (Run steps) (running steps)
-made_by_run steps = record { made = λ image second digits. refl; unread = λ digits. refl }
+pub made_by_run : (steps : ℕ) (report : Bool) → IsMadeBy (Run steps report) (running report steps)
+made_by_run steps report = record { made = λ image second digits. refl; unread = λ digits. refl }
+
+pub made_by_plain : (steps : ℕ) → IsMadeBy (Plain steps) (running false steps)
+made_by_plain steps = record { made = λ image second digits. refl; unread = λ digits. refl }
 
 pub made_by_script : (steps : ℕ) → IsMadeBy (Hostile steps) (answering steps)
 made_by_script steps = record { made = λ image second digits. refl; unread = λ digits. refl }
@@ -120,7 +123,8 @@ usage_is folder words none = to_end folder words says_usage (said_usage folder w
 
 shown_by : (i j : Option (List ℕ)) (digits text : List ℕ) (c : Option Command) → reading_by digits c ≡ Some text → said_by i j digits c ≡ Some (says_output text)
 shown_by i j digits text None reads = cc
-shown_by i j digits text (Some (Run steps)) reads = cc
+shown_by i j digits text (Some (Run steps report)) reads = cc
+shown_by i j digits text (Some (Plain steps)) reads = cc
 shown_by i j digits text (Some (Hostile steps)) reads = cc
 shown_by i j digits text (Some ShowPage) reads = ap (λ o. option_map (λ text. says_output text) o) reads
 shown_by i j digits text (Some (ShowMsr word)) reads = ap (λ o. option_map (λ text. says_output text) o) reads

@@ -1,24 +1,25 @@
 -- How a call of the program ends, from how its parts end.
-use Rattle.std.proofs.Common.{◌≡◌, ℕ, ◌⊎◌, true, inl, inr, List, length, Option, Some, None, Ok, refl, sym, ap, ◌∙◌, subst}
+use Rattle.std.proofs.Common.{◌≡◌, ℕ, ◌⊎◌, Bool, true, false, inl, inr, List, length, Option, Some, None, Ok, refl, sym, ap, ◌∙◌, subst}
 use Rattle.std.specs.Prelude.{IfSome}
 use Rattle.std.proofs.lemmas.Option.{same_Some}
 use Rattle.image_file.specs.Image.{Contents}
 use Rattle.host_events.specs.Hosting.{Hosting}
 use Rattle.run_io.specs.Outside.{SinkTold, FailsToPut, HasSpace, wrote}
 use Rattle.ghcb_cli.specs.declared.command.Command.{Command}
-use Rattle.ghcb_cli.specs.declared.command.Command.TheVariants.{Run, Hostile}
+use Rattle.ghcb_cli.specs.declared.command.Command.TheVariants.{Run, Plain, Hostile}
 use Rattle.ghcb_cli.specs.declared.commands.Ending.{Ending}
 use Rattle.ghcb_cli.specs.declared.commands.Ending.TheVariants as ending
 use Rattle.ghcb_cli.specs.declared.files.Unready.{Unready}
 use Rattle.ghcb_cli.specs.declared.files.Unready.TheVariants as unready
 use Rattle.ghcb_cli.specs.Command.{command_of, reading_of, command_word}
-use Rattle.ghcb_cli.specs.Ending.{Told, FailsRead, FailsWrite, WantsMemory, EndsAs, PutsAs, WantsAs, GivesUpAs, RunEndsAs, ScriptEndsAs, IsHandedBack, IsKnown, IsText}
-use Rattle.ghcb_cli.specs.Files.{Folder, Holds, AreRefused, AreUnread, single_in, input_in, image_in, script_in}
+use Rattle.ghcb_cli.specs.Ending.{Told, FailsRead, FailsWrite, WantsMemory, EndsAs, PutsAs, WantsAs, GivesUpAs, RunEndsAs, PlainEndsAs, ScriptEndsAs, IsHandedBack, IsKnown, IsText}
+use Rattle.ghcb_cli.specs.Files.{Folder, Holds, AreRefused, AreUnread, input_in, image_in, script_in}
 use Rattle.ghcb_cli.specs.Said.{Said, Making, IsMadeBy, running, answering, answered_text, output_of, said, says_refused, says_output, IsToEnd}
+use Rattle.ghcb_cli.specs.RunCommand.{run_text}
 use Rattle.ghcb_cli.specs.Text.{usage, line_of}
 use Rattle.ghcb_cli.specs.Unready.{Explains}
-use Rattle.ghcb_cli.proofs.Answering.{made_by_run, made_by_script, first_refused, none_said, said_output, text_is, to_end, usage_is, usage_text, shown_is, shown_text}
-use Rattle.ghcb_cli.proofs.Outputs.{output_shown, runs_written}
+use Rattle.ghcb_cli.proofs.Answering.{made_by_run, made_by_plain, made_by_script, first_refused, none_said, said_output, text_is, to_end, usage_is, usage_text, shown_is, shown_text}
+use Rattle.ghcb_cli.proofs.Outputs.{output_shown, plain_output, runs_written}
 
 -- a text was put, or a write of it failed
 put_ends : (words : List (List ℕ)) (text : List ℕ) (old new : Told) (done e : Ending) → PutsAs done text old.out new.out e →
@@ -26,43 +27,82 @@ put_ends : (words : List (List ℕ)) (text : List ℕ) (old new : Told) (done e 
 put_ends words text old new done e (inl put) ends fails = subst (λ (x : Ending). EndsAs words old new x) (sym put.0) (ends put.1)
 put_ends words text old new done e (inr failed) ends fails = subst (λ (x : Ending). EndsAs words old new x) (sym failed.0) (fails failed.1)
 
-wants_ends : (words : List (List ℕ)) (old new : Told) (e : Ending) → WantsAs old.out new.out e → (((steps : ℕ) → command_of words ≡ Some (Run steps) → ⊥) → new.host ≡ old.host) → EndsAs words old new e
+wants_ends : (words : List (List ℕ)) (old new : Told) (e : Ending) → WantsAs old.out new.out e → (((steps : ℕ) (report : Bool) → command_of words ≡ Some (Run steps report) → ⊥) → new.host ≡ old.host) → EndsAs words old new e
 wants_ends words old new e wants uncalled =
     let memory : WantsMemory words old new = record { writes = ap (λ (p : SinkTold). p.written) wants.1; uncalled = uncalled } in
     subst (λ (x : Ending). EndsAs words old new x) (sym wants.0) memory
 
 -- how the run of the files ends
-pub ran_ends : (words : List (List ℕ)) (steps : ℕ) (image : Contents) (input : List ℕ) (old new : Told) (e : Ending) → command_of words ≡ Some (Run steps) →
-    Holds old.files.folder single_in (command_word words 1) (Ok image) → Holds old.files.folder input_in (command_word words 2) (Ok input) →
-    RunEndsAs image input steps old.host new.host old.out new.out e → EndsAs words old new e
-ran_ends words steps image input old new e command first second (inr wants) = wants_ends words old new e wants (λ other. absurd (other steps command))
-ran_ends words steps image input old new e command first second (inl ran) =
+pub ran_ends : (words : List (List ℕ)) (steps : ℕ) (report : Bool) (image : Contents) (input : List ℕ) (old new : Told) (e : Ending) → command_of words ≡ Some (Run steps report) →
+    Holds old.files.folder image_in (command_word words 1) (Ok image) → Holds old.files.folder input_in (command_word words 2) (Ok input) →
+    RunEndsAs image input steps report old.host new.host old.out new.out e → EndsAs words old new e
+ran_ends words steps report image input old new e command first second (inr wants) = wants_ends words old new e wants (λ other. absurd (other steps report command))
+ran_ends words steps report image input old new e command first second (inl (f, console, run, inr wants)) =
+    wants_ends words old new e wants (λ other. absurd (other steps report command))
+ran_ends words steps report image input old new e command first second (inl (f, console, run, inl put)) =
+    let text = run_text report console f in
+    let says = said_output (running report steps) (Run steps report) (made_by_run steps report) old.files.folder words image input command first second in
+    let whole = (running report steps).text image input in
+    put_ends words text old new (ending.Done f) e put
+    (λ writes. record {
+      steps = steps;
+      report = report;
+      command = command;
+      ran = λ telling. record {
+        steps = steps;
+        report = report;
+        image = image;
+        input = input;
+        command = command;
+        image_file = first;
+        input_file = second;
+        runs = runs_written image steps report input f new.host console old.out.written new.out.written (run.ran telling) run.shown writes;
+      };
+      is_end = to_end old.files.folder words (says_output whole) says;
+    })
+    (λ fails. record {
+      text = text;
+      is_text =
+          text_is (running report steps) (Run steps report) (made_by_run steps report) old.files.folder words old.host text (says_output whole) command says
+          (λ known. output_shown image steps report input f new.host console (run.ran (known steps report command refl)) run.shown);
+      fails = fails;
+      uncalled = λ other. absurd (other steps report command);
+    })
+
+-- how the run of the files with the devices alone ends
+pub plain_ends : (words : List (List ℕ)) (steps : ℕ) (image : Contents) (input : List ℕ) (old new : Told) (e : Ending) → command_of words ≡ Some (Plain steps) → new.host ≡ old.host →
+    Holds old.files.folder image_in (command_word words 1) (Ok image) → Holds old.files.folder input_in (command_word words 2) (Ok input) →
+    PlainEndsAs image input steps old.out new.out e → EndsAs words old new e
+plain_ends words steps image input old new e command host first second (inr wants) = wants_ends words old new e wants (λ other. host)
+plain_ends words steps image input old new e command host first second (inl ran) =
     let f = ran.0 in
     let text = ran.1 in
-    let run = ran.2 in
-    let says = said_output (running steps) (Run steps) (made_by_run steps) old.files.folder words image input command first second in
-    put_ends words text old new (ending.Done f) e ran.3
+    let says = said_output (running false steps) (Plain steps) (made_by_plain steps) old.files.folder words image input command first second in
+    put_ends words text old new (ending.Plain f) e ran.3
     (λ writes. record {
       steps = steps;
       command = command;
-      ran = λ telling. record {
+      ran = record {
         steps = steps;
         image = image;
         input = input;
         command = command;
         image_file = first;
         input_file = second;
-        runs = runs_written image steps input f new.host text old.out.written new.out.written (run.ran telling) run.console writes;
+        console = text;
+        ran = ran.2;
+        writes = writes;
       };
       is_end = to_end old.files.folder words (says_output (output_of image steps input)) says;
+      host = host;
     })
     (λ fails. record {
       text = text;
       is_text =
-          text_is (running steps) (Run steps) (made_by_run steps) old.files.folder words old.host text (says_output (output_of image steps input)) command says
-          (λ known. output_shown image steps input f new.host text (run.ran (known steps command refl)) run.console);
+          text_is (running false steps) (Plain steps) (made_by_plain steps) old.files.folder words old.host text (says_output (output_of image steps input)) command says
+          (λ known. plain_output image steps input f text ran.2);
       fails = fails;
-      uncalled = λ other. absurd (other steps command);
+      uncalled = λ other. host;
     })
 
 handed_ends : (words : List (List ℕ)) (steps : ℕ) (image : Contents) (script : List ℕ) (old new : Told) (done : Ending) → command_of words ≡ Some (Hostile steps) → new.host ≡ old.host →
@@ -87,6 +127,7 @@ handed_ends words steps image script old new (ending.Answered f heard) command h
   host = host;
 }
 handed_ends words steps image script old new (ending.Done f) command host first second handed writes = absurd handed
+handed_ends words steps image script old new (ending.Plain f) command host first second handed writes = absurd handed
 handed_ends words steps image script old new ending.Usage command host first second handed writes = absurd handed
 handed_ends words steps image script old new ending.Shown command host first second handed writes = absurd handed
 handed_ends words steps image script old new (ending.Refused r) command host first second handed writes = absurd handed
@@ -155,6 +196,7 @@ shown_ends words text old new e reads host files ends =
 -- the status of an end
 abbrev pub status_of : Ending → ℕ
 status_of (ending.Done f) = 0
+status_of (ending.Plain f) = 0
 status_of (ending.Answered f heard) = 0
 status_of ending.Usage = 2
 status_of ending.Shown = 0
@@ -189,6 +231,7 @@ memory_so (Some f) words h out = λ s says known room. inr refl
 
 ends_so : (words : List (List ℕ)) (old new : Told) (e : Ending) → EndsAs words old new e → old.files.is_reliable ≡ true → EndsSo old.files.folder words old.host old.out (status_of e)
 ends_so words old new (ending.Done f) ends reliable = end_so old.files.folder words old.host old.out 0 ends.is_end
+ends_so words old new (ending.Plain f) ends reliable = end_so old.files.folder words old.host old.out 0 ends.is_end
 ends_so words old new (ending.Answered f heard) ends reliable = end_so old.files.folder words old.host old.out 0 ends.is_end
 ends_so words old new ending.Usage ends reliable = end_so old.files.folder words old.host old.out 2 (usage_is old.files.folder words ends.outside)
 ends_so words old new ending.Shown ends reliable = end_so old.files.folder words old.host old.out 0 (shown_is old.files.folder words ends.text ends.reads)

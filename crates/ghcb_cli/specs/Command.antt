@@ -1,10 +1,10 @@
 -- The words of the program.
-use Rattle.std.specs.Prelude.{ℕ, ◌+◌, ◌*◌, ◌-◌, ◌==◌, ◌&&◌, not, nat_le, nat_lt, if◌then◌else◌, Bool, List, [], ◌∷◌, codes, length, Option, Some, None, option_map, slice_index, slice_index_or}
+use Rattle.std.specs.Prelude.{ℕ, ◌+◌, ◌*◌, ◌-◌, ◌==◌, ◌&&◌, not, nat_le, nat_lt, if◌then◌else◌, Bool, true, false, List, [], ◌∷◌, codes, length, Option, Some, None, option_map, slice_index, slice_index_or}
 use Rattle.std.specs.Char.{is_ascii_digit}
 use Rattle.std.specs.List.{list_all}
 use Rattle.std.specs.Str.{bytes_eq}
 use Rattle.ghcb_cli.specs.declared.command.Command.{Command}
-use Rattle.ghcb_cli.specs.declared.command.Command.TheVariants.{Run, Hostile, ShowPage, ShowMsr, ShowInfo}
+use Rattle.ghcb_cli.specs.declared.command.Command.TheVariants.{Run, Plain, Hostile, ShowPage, ShowMsr, ShowInfo}
 use Rattle.page_words.specs.Told.{Kept}
 use Rattle.show_text.specs.Digits.{word_of_digits, page_of_digits}
 use Rattle.show_text.specs.Info.{info_text}
@@ -28,24 +28,43 @@ abbrev pub decimal_of : ℕ → ℕ → List ℕ → Option ℕ
 decimal_of least most text =
     if are_digits text && not (has_leading_zero text) && nat_le least (value_after 0 text) && nat_le (value_after 0 text) most then Some (value_after 0 text) else None
 
--- the most steps of a run over the host, and of one against a script
+-- the most steps of a run over the host or of the plain machine, and of one against a script
 abbrev pub most_steps : ℕ
 most_steps = 2097152
 
 abbrev pub most_hostile_steps : ℕ
 most_hostile_steps = 65536
 
+-- a run over the host whose console is to be written, and one whose report is
 abbrev pub run_command : ℕ → Command
-run_command steps = Run steps
+run_command steps = Run steps false
+
+abbrev pub report_command : ℕ → Command
+report_command steps = Run steps true
+
+abbrev pub plain_command : ℕ → Command
+plain_command steps = Plain steps
 
 abbrev pub hostile_command : ℕ → Command
 hostile_command steps = Hostile steps
 
 -- a run by its name and its steps
-abbrev pub run_by : List ℕ → List ℕ → Option Command
-run_by name steps =
+abbrev pub run_named : List ℕ → List ℕ → Option Command
+run_named name steps =
     if bytes_eq name (codes "run") then option_map run_command (decimal_of 1 most_steps steps)
+    else if bytes_eq name (codes "plain") then option_map plain_command (decimal_of 1 most_steps steps)
     else if bytes_eq name (codes "hostile") then option_map hostile_command (decimal_of 1 most_hostile_steps steps)
+    else None
+
+-- a run by its four words
+abbrev pub run_by : List ℕ → List ℕ → List ℕ → List ℕ → Option Command
+run_by name image second steps = if not (length image == 0) && not (length second == 0) then run_named name steps else None
+
+-- a run with a report by its five words
+abbrev pub report_by : List ℕ → List ℕ → List ℕ → List ℕ → List ℕ → Option Command
+report_by name image input steps last =
+    if bytes_eq name (codes "run") && bytes_eq last (codes "report") && not (length image == 0) && not (length input == 0)
+    then option_map report_command (decimal_of 1 most_steps steps)
     else None
 
 -- what is read of an MSR word, of an exit info and of a page
@@ -65,12 +84,17 @@ show_of kind digits =
     else if bytes_eq kind (codes "info") then option_map show_info (word_of_digits digits)
     else None
 
--- The grammar: `run IMAGE INPUT STEPS` and `hostile IMAGE SCRIPT STEPS` with names that aren't empty, and 1 to 2,097,152 steps
--- of the one and 1 to 65,536 of the other; and `show page HEX`, `show msr HEX` and `show info HEX` with the digits of a page or of a word.
+-- a reading by its three words
+abbrev pub show_by : List ℕ → List ℕ → List ℕ → Option Command
+show_by name kind digits = if bytes_eq name (codes "show") then show_of kind digits else None
+
+-- The grammar: `run IMAGE INPUT STEPS`, `run IMAGE INPUT STEPS report`, `plain IMAGE INPUT STEPS` and `hostile IMAGE SCRIPT
+-- STEPS` with names that aren't empty, and 1 to 65,536 steps of the last one and 1 to 2,097,152 of the others; and `show page
+-- HEX`, `show msr HEX` and `show info HEX` with the digits of a page or of a word.
 abbrev pub command_of : List (List ℕ) → Option Command
-command_of (name ∷ image ∷ second ∷ steps ∷ []) =
-    if not (length image == 0) && not (length second == 0) then run_by name steps else None
-command_of (name ∷ kind ∷ digits ∷ []) = if bytes_eq name (codes "show") then show_of kind digits else None
+command_of (name ∷ image ∷ second ∷ steps ∷ last ∷ []) = report_by name image second steps last
+command_of (name ∷ image ∷ second ∷ steps ∷ []) = run_by name image second steps
+command_of (name ∷ kind ∷ digits ∷ []) = show_by name kind digits
 command_of _ = None
 
 -- a word by its place, or no bytes where there are fewer words
@@ -82,7 +106,8 @@ abbrev pub reading_by : List ℕ → Option Command → Option (List ℕ)
 reading_by digits (Some ShowPage) = option_map page_text (page_of_digits digits)
 reading_by digits (Some (ShowMsr word)) = Some (msr_text word)
 reading_by digits (Some (ShowInfo word)) = Some (info_text word)
-reading_by digits (Some (Run steps)) = None
+reading_by digits (Some (Run steps report)) = None
+reading_by digits (Some (Plain steps)) = None
 reading_by digits (Some (Hostile steps)) = None
 reading_by digits None = None
 

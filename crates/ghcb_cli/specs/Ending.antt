@@ -1,5 +1,5 @@
 -- How a call of the program ends, and what each end means.
-use Rattle.std.specs.Prelude.{◌≡◌, ◌⊎◌, ℕ, true, List, [], Option, Some, None, IfSome}
+use Rattle.std.specs.Prelude.{◌≡◌, ◌⊎◌, ℕ, Bool, true, List, [], Option, Some, None, IfSome}
 use Rattle.image_file.specs.Image.{Contents}
 use Rattle.event_table.specs.declared.turn.Finished.{Finished}
 use Rattle.host_events.specs.Hosting.{Hosting, IsTelling}
@@ -10,11 +10,13 @@ use Rattle.ghcb_cli.specs.declared.commands.Ending.{Ending}
 use Rattle.ghcb_cli.specs.declared.commands.Ending.TheVariants as ending
 use Rattle.ghcb_cli.specs.declared.files.Unready.{Unready}
 use Rattle.ghcb_cli.specs.declared.files.Unready.TheVariants as unready
-use Rattle.ghcb_cli.specs.declared.command.Command.TheVariants.{Run, Hostile}
+use Rattle.plain_machine.specs.Ran.{RanPlain}
+use Rattle.ghcb_cli.specs.declared.command.Command.TheVariants.{Run, Plain, Hostile}
 use Rattle.ghcb_cli.specs.declared.text.Refused.{Refused}
 use Rattle.ghcb_cli.specs.Command.{command_of, reading_of}
 use Rattle.ghcb_cli.specs.Files.{Folder}
-use Rattle.ghcb_cli.specs.RunCommand.{RunsFiles}
+use Rattle.ghcb_cli.specs.PlainCommand.{RunsPlain}
+use Rattle.ghcb_cli.specs.RunCommand.{RunsFiles, run_text}
 use Rattle.ghcb_cli.specs.Said.{Said, said, says_refused, answered_text, IsToEnd}
 use Rattle.ghcb_cli.specs.ScriptCommand.{IsAnswered, RunsScript}
 use Rattle.ghcb_cli.specs.Text.{usage, line_of}
@@ -30,11 +32,11 @@ told files out host = record { files = files; out = out; host = host }
 
 -- the host is called for a run over it alone
 abbrev pub IsUncalled : List (List ℕ) → Told → Told → Type 0
-IsUncalled words old new = ((steps : ℕ) → command_of words ≡ Some (Run steps) → ⊥) → new.host ≡ old.host
+IsUncalled words old new = ((steps : ℕ) (report : Bool) → command_of words ≡ Some (Run steps report) → ⊥) → new.host ≡ old.host
 
 -- the text is known of what is to be said: that of a run over a host needs a host that tells
 abbrev pub IsKnown : List (List ℕ) → Hosting → Said → Type 0
-IsKnown words h s = (steps : ℕ) → command_of words ≡ Some (Run steps) → s.status ≡ 0 → IsTelling h
+IsKnown words h s = (steps : ℕ) (report : Bool) → command_of words ≡ Some (Run steps report) → s.status ≡ 0 → IsTelling h
 
 -- The text is what is to be said, where that is known: of the words alone where they are no command or ask for a reading.
 pub record IsText (folder : Option Folder) (words : List (List ℕ)) (h : Hosting) (text : List ℕ) : Type 0 where
@@ -42,12 +44,21 @@ pub record IsText (folder : Option Folder) (words : List (List ℕ)) (h : Hostin
   pub shown : (reading : List ℕ) → reading_of words ≡ Some reading → text ≡ reading
   pub inside : IfSome folder (λ f. (s : Said) × (said f words ≡ Some s) × (IsKnown words h s → text ≡ s.text))
 
--- the run, with its output written
+-- the run, with its output or its report written
 pub record Finishes (words : List (List ℕ)) (old new : Told) (f : Finished) : Type 0 where
   pub steps : ℕ
-  pub command : command_of words ≡ Some (Run steps)
+  pub report : Bool
+  pub command : command_of words ≡ Some (Run steps report)
   pub ran : IsTelling old.host → RunsFiles old.files.folder words f new.host old.out.written new.out.written
   pub is_end : IsToEnd old.files.folder words 0
+
+-- the run with the devices alone, with its console written
+pub record Computes (words : List (List ℕ)) (old new : Told) (f : Finished) : Type 0 where
+  pub steps : ℕ
+  pub command : command_of words ≡ Some (Plain steps)
+  pub ran : RunsPlain old.files.folder words f old.out.written new.out.written
+  pub is_end : IsToEnd old.files.folder words 0
+  pub host : new.host ≡ old.host
 
 -- the run on a script's words, with its text written
 pub record Answers (words : List (List ℕ)) (old new : Told) (f : Finished) (heard : List ℕ) : Type 0 where
@@ -99,6 +110,7 @@ pub record WantsMemory (words : List (List ℕ)) (old new : Told) : Type 0 where
 
 abbrev pub EndsAs : List (List ℕ) → Told → Told → Ending → Type 0
 EndsAs words old new (ending.Done f) = Finishes words old new f
+EndsAs words old new (ending.Plain f) = Computes words old new f
 EndsAs words old new (ending.Answered f heard) = Answers words old new f heard.items
 EndsAs words old new ending.Usage = Uses words old new
 EndsAs words old new ending.Shown = Shows words old new
@@ -118,14 +130,24 @@ abbrev pub WantsAs : SinkTold → SinkTold → Ending → Type 0
 WantsAs old new e = (e ≡ ending.OutOfMemory) × (new ≡ old)
 
 -- the run of an image over an input, and the console's bytes
-pub record IsRun (image : Contents) (input : List ℕ) (steps : ℕ) (before after : Hosting) (f : Finished) (text : List ℕ) : Type 0 where
+pub record IsRun (image : Contents) (input : List ℕ) (steps : ℕ) (before after : Hosting) (f : Finished) (console : List ℕ) : Type 0 where
   pub ran : IsTelling before → RanRounds image steps input f after
-  pub console : IfSome after.devices (λ d. text ≡ d.console)
+  pub shown : IfSome after.devices (λ d. console ≡ d.console)
+
+-- a run that put out these bytes is written, or memory was wanting for its report
+abbrev pub IsWritten : Bool → List ℕ → Finished → SinkTold → SinkTold → Ending → Type 0
+IsWritten report console f old new e = PutsAs (ending.Done f) (run_text report console f) old new e ⊎ WantsAs old new e
 
 -- how the run of an image over an input ends
-abbrev pub RunEndsAs : Contents → List ℕ → ℕ → Hosting → Hosting → SinkTold → SinkTold → Ending → Type 0
-RunEndsAs image input steps before after old new e =
-    ((f : Finished) × (text : List ℕ) × IsRun image input steps before after f text × PutsAs (ending.Done f) text old new e)
+abbrev pub RunEndsAs : Contents → List ℕ → ℕ → Bool → Hosting → Hosting → SinkTold → SinkTold → Ending → Type 0
+RunEndsAs image input steps report before after old new e =
+    ((f : Finished) × (console : List ℕ) × IsRun image input steps before after f console × IsWritten report console f old new e)
+    ⊎ WantsAs old new e
+
+-- how the run of an image over an input with the devices alone ends
+abbrev pub PlainEndsAs : Contents → List ℕ → ℕ → SinkTold → SinkTold → Ending → Type 0
+PlainEndsAs image input steps old new e =
+    ((f : Finished) × (text : List ℕ) × RanPlain image steps input f text × PutsAs (ending.Plain f) text old new e)
     ⊎ WantsAs old new e
 
 -- the run of an image on a script's words is handed back

@@ -5,7 +5,7 @@ use Rattle.image_file.specs.Image.{Contents, image_of}
 use Rattle.script_file.specs.Lines.{script_of}
 use Rattle.run_io.specs.Outside.{FilesTold, Rose}
 use Rattle.ghcb_cli.specs.declared.text.Refused.{Refused}
-use Rattle.ghcb_cli.specs.declared.text.Refused.TheVariants.{ImageLimit, Image, NotYet, InputLimit, ScriptLimit, ScriptLine}
+use Rattle.ghcb_cli.specs.declared.text.Refused.TheVariants.{ImageLimit, Image, InputLimit, ScriptLimit, ScriptLine}
 
 -- the most bytes of an image file, of an input and of a script
 abbrev pub most_image : ℕ
@@ -42,13 +42,6 @@ image_by (Err fault) = Err (Image fault)
 abbrev pub image_in : List ℕ → Result Contents Refused
 image_in bytes = and_then (λ file. image_by (image_of file)) (limited most_image ImageLimit bytes)
 
--- over a host an image of one vCPU runs so far
-abbrev pub one_vcpu : Contents → Result Contents Refused
-one_vcpu image = if nat_lt 1 image.header.vcpus then Err NotYet else Ok image
-
-abbrev pub single_in : List ℕ → Result Contents Refused
-single_in bytes = and_then one_vcpu (image_in bytes)
-
 -- the input in a file's bytes, or the limit that they break
 abbrev pub input_in : List ℕ → Result (List ℕ) Refused
 input_in bytes = limited most_input InputLimit bytes
@@ -75,7 +68,7 @@ pub record Parts : Type 0 where
   pub second : List ℕ → Result (List ℕ) Refused
 
 abbrev pub run_parts : Parts
-run_parts = record { image = single_in; second = input_in }
+run_parts = record { image = image_in; second = input_in }
 
 abbrev pub script_parts : Parts
 script_parts = record { image = image_in; second = script_in }

@@ -4,6 +4,7 @@ pub mod Text
 pub mod Files
 pub mod Said
 pub mod RunCommand
+pub mod PlainCommand
 pub mod ScriptCommand
 pub mod Unready
 pub mod Ending

@@ -1,11 +1,12 @@
 -- What the program is to say: a function of its words and its files.
-use Rattle.std.specs.Prelude.{◌≡◌, ℕ, List, Option, Some, None, Result, Ok, Err, IfSome, option_map, option_and_then}
+use Rattle.std.specs.Prelude.{◌≡◌, ℕ, Bool, false, if◌then◌else◌, List, Option, Some, None, Result, Ok, Err, IfSome, option_map, option_and_then}
 use Rattle.image_file.specs.Image.{Contents}
 use Rattle.hostile_host.specs.Answered.{run_on_words}
 use Rattle.trace_text.specs.Trace.{trace_text}
-use Rattle.plain_machine.specs.Plain.{rounds_machine}
+use Rattle.plain_machine.specs.Plain.{rounds_machine, rounds_order, steps_of, ends_of}
+use Rattle.report_text.specs.Report.{report_text}
 use Rattle.ghcb_cli.specs.declared.command.Command.{Command}
-use Rattle.ghcb_cli.specs.declared.command.Command.TheVariants.{Run, Hostile, ShowPage, ShowMsr, ShowInfo}
+use Rattle.ghcb_cli.specs.declared.command.Command.TheVariants.{Run, Plain, Hostile, ShowPage, ShowMsr, ShowInfo}
 use Rattle.ghcb_cli.specs.declared.text.Refused.{Refused}
 use Rattle.ghcb_cli.specs.Command.{command_of, reading_by, command_word}
 use Rattle.ghcb_cli.specs.Files.{Folder, Parts, run_parts, script_parts}
@@ -30,6 +31,12 @@ says_output text = record { status = 0; refused = None; text = text }
 abbrev pub output_of : Contents → ℕ → List ℕ → List ℕ
 output_of image steps input = (rounds_machine image steps input).devices.console
 
+-- the report of the plain machine's values in the order of rounds
+abbrev pub report_of : Contents → ℕ → List ℕ → List ℕ
+report_of image steps input =
+    let stops = (rounds_machine image steps input).stops in
+    report_text (output_of image steps input) (rounds_order image steps input) (ends_of stops) (steps_of stops)
+
 -- the trace and the end of the run on a script's words
 abbrev pub answered_text : Contents → ℕ → List ℕ → List ℕ
 answered_text image steps words = let run = run_on_words image steps words in trace_text run.items run.value.end run.value.cpu.steps
@@ -39,8 +46,11 @@ pub record Making : Type 0 where
   pub parts : Parts
   pub text : Contents → List ℕ → List ℕ
 
-abbrev pub running : ℕ → Making
-running steps = record { parts = run_parts; text = λ image input. output_of image steps input }
+abbrev pub running : Bool → ℕ → Making
+running report steps = record {
+  parts = run_parts;
+  text = λ image input. if report then report_of image steps input else output_of image steps input;
+}
 
 abbrev pub answering : ℕ → Making
 answering steps = record { parts = script_parts; text = λ image words. answered_text image steps words }
@@ -57,7 +67,8 @@ abbrev pub said_of_files : Making → Option (List ℕ) → Option (List ℕ) �
 said_of_files making image second = option_and_then (λ bytes. said_with making second (making.parts.image bytes)) image
 
 abbrev pub said_by : Option (List ℕ) → Option (List ℕ) → List ℕ → Option Command → Option Said
-said_by image second digits (Some (Run steps)) = said_of_files (running steps) image second
+said_by image second digits (Some (Run steps report)) = said_of_files (running report steps) image second
+said_by image second digits (Some (Plain steps)) = said_of_files (running false steps) image second
 said_by image second digits (Some (Hostile steps)) = said_of_files (answering steps) image second
 said_by image second digits (Some ShowPage) = option_map (λ text. says_output text) (reading_by digits (Some ShowPage))
 said_by image second digits (Some (ShowMsr word)) = option_map (λ text. says_output text) (reading_by digits (Some (ShowMsr word)))

@@ -9,7 +9,8 @@ use Rattle.ghcb_cli.specs.declared.command.Task.TheVariants as task
 
 -- the command alone
 abbrev pub command_in : Task → Command
-command_in (task.Run image input steps) = command.Run steps
+command_in (task.Run image input steps report) = command.Run steps report
+command_in (task.Plain image input steps) = command.Plain steps
 command_in (task.Hostile image script steps) = command.Hostile steps
 command_in (task.ShowPage page) = command.ShowPage
 command_in (task.ShowMsr word) = command.ShowMsr word
@@ -17,7 +18,8 @@ command_in (task.ShowInfo word) = command.ShowInfo word
 
 -- it has what the second and the third word hold
 abbrev pub HasWords : List ℕ → List ℕ → Task → Type 0
-HasWords first second (task.Run image input steps) = (image.now ≡ first) × (input.now ≡ second)
+HasWords first second (task.Run image input steps report) = (image.now ≡ first) × (input.now ≡ second)
+HasWords first second (task.Plain image input steps) = (image.now ≡ first) × (input.now ≡ second)
 HasWords first second (task.Hostile image script steps) = (image.now ≡ first) × (script.now ≡ second)
 HasWords first second (task.ShowPage page) = page_of_digits second ≡ Some page
 HasWords first second (task.ShowMsr word) = Unit {0}
@@ -25,6 +27,7 @@ HasWords first second (task.ShowInfo word) = Unit {0}
 
 -- a run has no more steps than the grammar allows
 abbrev pub IsWithin : Task → Type 0
-IsWithin (task.Run image input steps) = steps ≤ most_steps
+IsWithin (task.Run image input steps report) = steps ≤ most_steps
+IsWithin (task.Plain image input steps) = steps ≤ most_steps
 IsWithin (task.Hostile image script steps) = steps ≤ most_hostile_steps
 IsWithin _ = Unit {0}

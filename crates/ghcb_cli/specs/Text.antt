@@ -3,7 +3,7 @@ use Rattle.std.specs.Prelude.{ℕ, List, ◌++◌, codes}
 use Rattle.show_text.specs.Number.{labelled, line_end}
 use Rattle.image_file.specs.Fault.{fault_number}
 use Rattle.ghcb_cli.specs.declared.text.Refused.{Refused}
-use Rattle.ghcb_cli.specs.declared.text.Refused.TheVariants.{ImageLimit, Image, NotYet, InputLimit, ScriptLimit, ScriptLine}
+use Rattle.ghcb_cli.specs.declared.text.Refused.TheVariants.{ImageLimit, Image, InputLimit, ScriptLimit, ScriptLine}
 
 abbrev pub usage : List ℕ
 usage = codes "usage: ghcb_run run|plain|hostile|live|secret|show|make\n"
@@ -12,7 +12,6 @@ usage = codes "usage: ghcb_run run|plain|hostile|live|secret|show|make\n"
 abbrev pub what_of : Refused → List ℕ
 what_of ImageLimit = codes "image limit"
 what_of (Image fault) = labelled (codes "image ") (fault_number fault)
-what_of NotYet = codes "not-yet"
 what_of InputLimit = codes "input limit"
 what_of ScriptLimit = codes "script limit"
 what_of (ScriptLine line) = labelled (codes "script line ") line

@@ -12,8 +12,10 @@ use show_text::{page_from_hex, word_from_hex};
 /// What the words ask for. File names and the digits of a page are read from the words themselves.
 #[derive(Clone, Copy, Debug, PartialEq, Eq)]
 pub enum Command {
-    /// Runs an image over the host, within so many steps for each vCPU.
-    Run { steps: u64 },
+    /// Runs an image over the host, within so many steps for each vCPU, and writes its console or its report.
+    Run { steps: u64, report: bool },
+    /// Runs an image with the devices alone, within so many steps for each vCPU.
+    Plain { steps: u64 },
     /// Runs vCPU 0 of an image on the words of a script, within so many steps.
     Hostile { steps: u64 },
     /// Reads a page.
@@ -31,6 +33,12 @@ pub enum Task<'a> {
         image: &'a str,
         input: &'a str,
         steps: u64,
+        report: bool,
+    },
+    Plain {
+        image: &'a str,
+        input: &'a str,
+        steps: u64,
     },
     Hostile {
         image: &'a str,
@@ -42,7 +50,7 @@ pub enum Task<'a> {
     ShowInfo(u64),
 }
 
-/// The most steps that a run over the host can be given.
+/// The most steps that a run over the host or of the plain machine can be given.
 const MOST_STEPS: u64 = 2_097_152;
 
 /// The most steps that a run on a script can be given.
@@ -128,14 +136,23 @@ fn show<'a>(kind: &str, digits: &str) -> Option<Task<'a>>
 }
 
 /// A run by its name, the names of its two files, and its steps.
-fn run_by<'a>(name: &str, image: &'a str, second: &'a str, steps: &[u8]) -> Option<Task<'a>>
-    ensures command { option_map command_in result ≡ Rattle.ghcb_cli.specs.Command.run_by name.now steps.now }
+fn run_named<'a>(name: &str, image: &'a str, second: &'a str, steps: &[u8]) -> Option<Task<'a>>
+    ensures command { option_map command_in result ≡ Rattle.ghcb_cli.specs.Command.run_named name.now steps.now }
     ensures words { IfSome result (λ task. HasWords image.now second.now task) }
     ensures within { IfSome result IsWithin }
 {
     match name {
         "run" => match decimal(steps, 1, MOST_STEPS) {
             Some(steps) => Some(Task::Run {
+                image,
+                input: second,
+                steps,
+                report: false,
+            }),
+            None => None,
+        },
+        "plain" => match decimal(steps, 1, MOST_STEPS) {
+            Some(steps) => Some(Task::Plain {
                 image,
                 input: second,
                 steps,
@@ -154,6 +171,59 @@ fn run_by<'a>(name: &str, image: &'a str, second: &'a str, steps: &[u8]) -> Opti
     }
 }
 
+/// A run by its four words.
+fn run_by<'a>(name: &str, image: &'a str, second: &'a str, steps: &[u8]) -> Option<Task<'a>>
+    ensures command { option_map command_in result ≡ Rattle.ghcb_cli.specs.Command.run_by
+        name.now image.now second.now steps.now }
+    ensures words { IfSome result (λ task. HasWords image.now second.now task) }
+    ensures within { IfSome result IsWithin }
+{
+    if image.is_empty() || second.is_empty() {
+        return None;
+    }
+    run_named(name, image, second, steps)
+}
+
+/// A reading by its three words.
+fn show_by<'a>(name: &str, kind: &str, digits: &str) -> Option<Task<'a>>
+    ensures command { option_map command_in result ≡ Rattle.ghcb_cli.specs.Command.show_by
+        name.now kind.now digits.now }
+    ensures words { IfSome result (λ task. HasWords kind.now digits.now task) }
+    ensures within { IfSome result IsWithin }
+{
+    if name != "show" {
+        return None;
+    }
+    show(kind, digits)
+}
+
+/// A run with a report by its five words.
+fn report_by<'a>(
+    name: &str,
+    image: &'a str,
+    input: &'a str,
+    steps: &[u8],
+    last: &str,
+) -> Option<Task<'a>>
+    ensures command { option_map command_in result ≡ Rattle.ghcb_cli.specs.Command.report_by
+        name.now image.now input.now steps.now last.now }
+    ensures words { IfSome result (λ task. HasWords image.now input.now task) }
+    ensures within { IfSome result IsWithin }
+{
+    if name != "run" || last != "report" || image.is_empty() || input.is_empty() {
+        return None;
+    }
+    match decimal(steps, 1, MOST_STEPS) {
+        Some(steps) => Some(Task::Run {
+            image,
+            input,
+            steps,
+            report: true,
+        }),
+        None => None,
+    }
+}
+
 /// What the words of `ghcb_run` ask for; none exactly where they are none of its grammar.
 pub fn task_in(words: &[String]) -> Option<Task<'_>>
     ensures command { option_map command_in result ≡ command_of (map string_bytes words.now) }
@@ -162,13 +232,20 @@ pub fn task_in(words: &[String]) -> Option<Task<'_>>
     ensures within { IfSome result IsWithin }
 {
     match words {
-        [name, image, second, steps] if !image.is_empty() && !second.is_empty() => run_by(
+        [name, image, input, steps, last] => report_by(
+            name.as_str(),
+            image.as_str(),
+            input.as_str(),
+            steps.as_bytes(),
+            last.as_str(),
+        ),
+        [name, image, second, steps] => run_by(
             name.as_str(),
             image.as_str(),
             second.as_str(),
             steps.as_bytes(),
         ),
-        [name, kind, digits] if name.as_str() == "show" => show(kind.as_str(), digits.as_str()),
+        [name, kind, digits] => show_by(name.as_str(), kind.as_str(), digits.as_str()),
         _ => None,
     }
 }
@@ -178,7 +255,8 @@ pub fn parse(words: &[String]) -> Option<Command>
     ensures command { result ≡ command_of (map string_bytes words.now) }
 {
     match task_in(words) {
-        Some(Task::Run { steps, .. }) => Some(Command::Run { steps }),
+        Some(Task::Run { steps, report, .. }) => Some(Command::Run { steps, report }),
+        Some(Task::Plain { steps, .. }) => Some(Command::Plain { steps }),
         Some(Task::Hostile { steps, .. }) => Some(Command::Hostile { steps }),
         Some(Task::ShowPage(_)) => Some(Command::ShowPage),
         Some(Task::ShowMsr(word)) => Some(Command::ShowMsr(word)),

@@ -20,6 +20,7 @@ use std::alloc::Global;
 #[derive(Drop)]
 pub enum Ending {
     Done(Finished),
+    Plain(Finished),
     Answered { finished: Finished, heard: Vec<u64> },
     Usage,
     Shown,

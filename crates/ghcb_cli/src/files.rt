@@ -1,7 +1,7 @@
 // The files that a command names, or why they can't be run.
 ghost use Rattle.std.specs.Prelude.{◌≡◌, ◌<◌, ◌^◌, IfOk, IfErr, Ok, Err};
 ghost use Rattle.run_io.specs.Outside.{AreRead, FailsToRead};
-ghost use Rattle.ghcb_cli.specs.Files.{Holds, limited, image_in, single_in, input_in, script_in};
+ghost use Rattle.ghcb_cli.specs.Files.{Holds, limited, image_in, input_in, script_in};
 ghost use Rattle.ghcb_cli.specs.Unready.{unready_of, Explains};
 
 use crate::text::Refused;
@@ -77,21 +77,6 @@ pub fn image_of<F: Files>(alloc: Global, files: &mut F, name: &str) -> Result<Im
         Err(ImageError::Fault(fault)) => Err(Unready::Refused(Refused::Image(fault))),
         Err(ImageError::OutOfMemory) => Err(Unready::OutOfMemory),
     }
-}
-
-/// The image of one vCPU in a file, or why there is none.
-pub fn one_vcpu_image<F: Files>(alloc: Global, files: &mut F, name: &str) -> Result<Image, Unready>
-    ensures image { IfOk result (λ image. Holds (F.told files.old).folder single_in name.now (Ok image)) }
-    ensures refused { IfErr result (λ e. Explains e
-        (λ r. Holds (F.told files.old).folder single_in name.now (Err r))
-        (FailsToRead name.now (F.told files.old) (F.told files.new))) }
-    ensures read { AreRead (F.told files.old) (F.told files.new) }
-{
-    let image = image_of(alloc, files, name)?;
-    if image.vcpus() > 1 {
-        return Err(Unready::Refused(Refused::NotYet));
-    }
-    Ok(image)
 }
 
 /// The bytes of the input in a file, or why there are none.

@@ -1,12 +1,19 @@
-//! The program `ghcb_run`: `run` takes an image and an input over a host, `hostile` takes an image on the
-//! words of a script, and `show` reads a page, an MSR word or an exit info. What it prints and its status
-//! follow from its words and files.
+//! The program `ghcb_run`: `run` takes an image and an input over a host and writes the console or a report,
+//! `plain` takes them with the devices alone, `hostile` takes an image on the words of a script, and `show` reads
+//! a page, an MSR word or an exit info. What it prints and its status follow from its words and files.
 #![tactic(auto)]
 
 mod command;
 mod commands;
 mod files;
+#[cfg(test)]
+mod fixture;
 mod host_run;
+#[cfg(test)]
+mod mmio_tests;
+mod plain_run;
+#[cfg(test)]
+mod rounds_tests;
 mod script_run;
 #[cfg(test)]
 mod string_tests;

@@ -1,39 +1,29 @@
 // String I/O from two files to the console or the trace, where each block is one event.
-use crate::ghcb_main;
-use crate::tests::{Watching, WordsAt, has_words, words_of};
-use event_table::{End, Turn};
-use host_events::{Host, Hypervisor};
+use crate::fixture::{OF_REPLIES, answers, call, ended, pages_have, took};
+use hex_rows::Row;
 use image_samples::sample_file;
-use run_io::{MemFiles, MemSink};
+use run_io::MemFiles;
 use std::alloc::Global;
 use std::test::Fail;
+use std::thread::Threads;
 
 /// MOV ESI, 12h; MOV ECX, 7F1h; MOV EDX, 3F8h; REP OUTSB; HLT: 2,033 bytes behind the code go out.
-const PRINTS: [u8; 18] = [
-    0xBE, 0x12, 0, 0, 0, 0xB9, 0xF1, 7, 0, 0, 0xBA, 0xF8, 3, 0, 0, 0xF3, 0x6E, 0xF4,
-];
+const PRINTS: &str = "BE 12 00 00 00 B9 F1 07 00 00 BA F8 03 00 00 F3 6E F4";
 
 /// MOV ESI, 12h; MOV ECX, 3; MOV EDX, 3F8h; at 15 REP OUTSB; HLT.
-const PRINTS_THREE: [u8; 18] = [
-    0xBE, 0x12, 0, 0, 0, 0xB9, 3, 0, 0, 0, 0xBA, 0xF8, 3, 0, 0, 0xF3, 0x6E, 0xF4,
-];
-
-/// REP OUTSB; HLT, where RCX is 0.
-const PRINTS_NOTHING: [u8; 3] = [0xF3, 0x6E, 0xF4];
+const PRINTS_THREE: &str = "BE 12 00 00 00 B9 03 00 00 00 BA F8 03 00 00 F3 6E F4";
 
 /// MOV EDI, 18h; STD; MOV ECX, 3; MOV EDX, 500h; REP INSD; HLT: the elements at 18h and at 14h lie behind the
 /// code, and the one at 10h has bytes of it.
-const READS_DOWN: [u8; 19] = [
-    0xBF, 0x18, 0, 0, 0, 0xFD, 0xB9, 3, 0, 0, 0, 0xBA, 0, 5, 0, 0, 0xF3, 0x6D, 0xF4,
-];
+const READS_DOWN: &str = "BF 18 00 00 00 FD B9 03 00 00 00 BA 00 05 00 00 F3 6D F4";
 
 /// MOV EDI, 9; REP INSB; INSB; HLT: RCX is 0, and one byte of port 0 goes behind the code.
-const READS_ONE: [u8; 9] = [0xBF, 9, 0, 0, 0, 0xF3, 0x6C, 0x6C, 0xF4];
+const READS_ONE: &str = "BF 09 00 00 00 F3 6C 6C F4";
 
 /// The file of an image with this code, a handler of #GP at an address or none, and so many bytes of data:
 /// 0 to 250 again and again.
-fn file_with_data(alloc: Global, code: &[u8], gp: u32, len: u16) -> Result<Vec<u8>, Fail> {
-    let mut file = sample_file(alloc, code, 0, gp)?;
+fn file_with_data(alloc: Global, code: &str, gp: u32, len: u16) -> Result<Vec<u8>, Fail> {
+    let mut file = sample_file(alloc, Row::new(code).bytes(alloc)?.as_slice(), 0, gp)?;
     let [low, high] = len.to_le_bytes();
     for (at, byte) in [(20, low), (21, high)] {
         if let Some(slot) = file.get_mut(at) {
@@ -55,162 +45,127 @@ fn folder(alloc: Global, image: &[u8], input: &[u8], script: &str) -> Result<Mem
     Ok(files)
 }
 
-/// A guest with so many bytes of data and an input, and what its run is to leave with 100 steps at most: the
-/// order, the steps and the end.
-type Row<'a> = (&'a [u8], u16, &'a [u8], &'a [Turn], u64, End);
+/// Whether a guest with no data or one byte, as its row tells, reads its input by these blocks, comes to this end, and
+/// writes nothing, over a hypervisor that changes these words of its replies.
+fn runs<R: Threads + Sync>(
+    rt: &R,
+    alloc: Global,
+    row: &str,
+    changes: &[(u16, u64)],
+) -> Result<bool, Fail> {
+    let mut row = Row::new(row);
+    let code = row.text();
+    let [len] = row.numbers::<1>()?;
+    let input = row.bytes(alloc)?;
+    let counts = row.list(alloc)?;
+    let image = file_with_data(alloc, code, 0, u16::from(len != 0))?;
+    let mut files = folder(alloc, &image, input.as_slice(), "")?;
+    let left = call(
+        rt,
+        alloc,
+        &["run", "image", "input", "100"],
+        &mut files,
+        changes,
+    )?;
+    let silent = left.written.is_empty() && took(&left, counts.as_slice());
+    Ok(silent && ended(alloc, &left, row.text())?)
+}
 
-const ROWS: [Row; 3] = [
-    (&PRINTS_NOTHING, 0, b"", &[], 2, End::Halted),
-    (
-        &READS_DOWN,
-        0,
-        b"",
-        &[Turn { vcpu: 0, count: 2 }],
-        6,
-        End::BadAddress(0x10),
-    ),
-    (
-        &READS_ONE,
-        1,
-        b"z",
-        &[Turn { vcpu: 0, count: 1 }],
-        4,
-        End::Halted,
-    ),
-];
+/// Guests, how many bytes of data each has, its input, its blocks and its end.
+const BLOCKS: &str = "F3 6E F4 | 0 | | | halted steps 2 ; REP OUTSB; HLT, where RCX is 0
+BF 18 00 00 00 FD B9 03 00 00 00 BA 00 05 00 00 F3 6D F4 | 0 | | 2 | bad-address 0000000000000010 steps 6
+BF 09 00 00 00 F3 6C 6C F4 | 1 | 7A | 1 | halted steps 4";
 
 #[test]
 fn a_block_has_the_elements_that_can_be_moved(rt: HostRuntime) -> Result<(), Fail> {
-    let alloc = rt.alloc();
-    for (code, len, input, order, steps, end) in ROWS {
-        let image = file_with_data(alloc, code, 0, len)?;
-        let mut files = folder(alloc, &image, input, "")?;
-        let words = words_of(alloc, &["run", "image", "input", "100"])?;
-        let mut out = MemSink::new(alloc, 0)?;
-        let mut host = Hypervisor::new(alloc);
-        let done = ghcb_main(&rt, alloc, &words, &mut files, &mut out, &mut host);
-        assert_eq!(rt; done.status, 0);
-        assert_eq!(rt; out.written(), b"".as_slice());
-        assert_eq!(rt; done.order.as_slice(), order);
-        assert_eq!(rt; host.turns(), order.len() as u64);
-        assert_eq!(rt; done.steps.as_slice(), [steps].as_slice());
-        assert_eq!(rt; done.ends.as_slice(), [end].as_slice());
+    for line in BLOCKS.lines() {
+        assert!(rt; runs(&rt, rt.alloc(), line, &[])?, "{line}");
     }
     Ok(())
 }
 
-/// The blocks of a long string.
-const LONG: [Turn; 2] = [
-    Turn {
-        vcpu: 0,
-        count: 2032,
-    },
-    Turn { vcpu: 0, count: 1 },
-];
+#[test]
+fn a_reply_has_no_count_and_no_buffer_of_its_own(rt: HostRuntime) -> Result<(), Fail> {
+    let changes = [(116, 0xFFFF), (117, 0x8000_1800)];
+    for line in BLOCKS.lines() {
+        assert!(rt; runs(&rt, rt.alloc(), line, &changes)?, "{line}");
+    }
+    Ok(())
+}
+
+/// Whether a run of the long string with so many steps at most writes so many bytes in these blocks, and comes to
+/// this end.
+fn prints<R: Threads + Sync>(
+    rt: &R,
+    alloc: Global,
+    most: &str,
+    written: u16,
+    counts: &[u64],
+    end: &str,
+) -> Result<bool, Fail> {
+    let image = file_with_data(alloc, PRINTS, 0, 2033)?;
+    let mut files = folder(alloc, &image, b"", "")?;
+    let left = call(rt, alloc, &["run", "image", "input", most], &mut files, &[])?;
+    let is_data = left.written.len() == usize::from(written)
+        && file_with_data(alloc, PRINTS, 0, written)?.ends_with(&left.written);
+    Ok(is_data && took(&left, counts) && ended(alloc, &left, end)?)
+}
 
 #[test]
 fn a_long_string_goes_out_in_blocks_of_2032_bytes(rt: HostRuntime) -> Result<(), Fail> {
     let alloc = rt.alloc();
-    let image = file_with_data(alloc, &PRINTS, 0, 2033)?;
-    for (steps, written, order, counted, end) in [
-        ("10000", 2033, &LONG[..], 2037, End::Halted),
-        ("4", 2032, &LONG[..1], 2035, End::Spent),
-    ] {
-        let mut files = folder(alloc, &image, b"", "")?;
-        let words = words_of(alloc, &["run", "image", "input", steps])?;
-        let mut out = MemSink::new(alloc, 2033)?;
-        let mut host = Hypervisor::new(alloc);
-        let done = ghcb_main(&rt, alloc, &words, &mut files, &mut out, &mut host);
-        assert_eq!(rt; done.status, 0);
-        assert_eq!(rt; out.written().len(), usize::from(written));
-        assert!(rt; file_with_data(alloc, &PRINTS, 0, written)?.ends_with(out.written()));
-        assert_eq!(rt; done.order.as_slice(), order);
-        assert_eq!(rt; done.steps.as_slice(), [counted].as_slice());
-        assert_eq!(rt; done.ends.as_slice(), [end].as_slice());
-    }
+    assert!(rt; prints(&rt, alloc, "10000", 2033, &[2032, 1], "halted steps 2037")?);
+    assert!(rt; prints(&rt, alloc, "4", 2032, &[2032], "spent steps 2035")?);
     Ok(())
 }
 
 /// The words that each block shows: the exit code, the address of the buffer, and the bits of both bitmaps.
-const OF_BLOCKS: WordsAt = &[
+const OF_BLOCKS: [(u16, u64); 4] = [
     (114, 0x7B),
     (117, 0x8000_0800),
     (126, 0),
     (127, 0x003C_0000_0000_0000),
 ];
 
-/// The words that are left of each block that was accepted.
-const OF_REPLIES: WordsAt = &[(115, 0), (116, 0), (126, 0), (127, 0x0018_0000_0000_0000)];
+/// Whether the blocks of a guest, as many as `count`, show the words of a row, and leave those of another row: a cell
+/// for each block.
+fn talks<R: Threads + Sync>(
+    rt: &R,
+    alloc: Global,
+    image: &[u8],
+    count: usize,
+    [shown, kept]: [&str; 2],
+) -> Result<bool, Fail> {
+    let mut files = folder(alloc, image, b"", "")?;
+    let left = call(
+        rt,
+        alloc,
+        &["run", "image", "input", "10000"],
+        &mut files,
+        &[],
+    )?;
+    let is_told = pages_have(alloc, &left.shown, &OF_BLOCKS, shown)?
+        && pages_have(alloc, &left.left, &OF_REPLIES, kept)?;
+    let pages = left.shown.len().checked_sub(1);
+    Ok(is_told && left.done.status == 0 && pages == Some(count))
+}
 
-/// A guest with so many bytes of data, and further words that its blocks show and that are left of them.
-type Talk<'a> = (&'a [u8], u16, &'a [(WordsAt<'a>, WordsAt<'a>)]);
-
-const TALKS: [Talk; 3] = [
-    // The second block stores word 256 alone, so those after it are as the first one left them.
-    (
-        &PRINTS,
-        2033,
-        &[
-            (
-                &[
-                    (115, 0x03F8_0E1C),
-                    (116, 0x7F0),
-                    (256, 0x0706_0504_0302_0100),
-                    (509, 0x1716_1514_1312_1110),
-                    (510, 0),
-                ],
-                &[],
-            ),
-            (
-                &[
-                    (115, 0x03F8_0E1C),
-                    (116, 1),
-                    (256, 0x18),
-                    (257, 0x0F0E_0D0C_0B0A_0908),
-                    (509, 0x1716_1514_1312_1110),
-                ],
-                &[],
-            ),
-        ],
-    ),
-    (
-        &READS_DOWN,
-        0,
-        &[(&[(115, 0x0500_024D), (116, 2)], &[(256, 0)])],
-    ),
-    (
-        &READS_ONE,
-        1,
-        &[(&[(115, 0x0215), (116, 1), (256, 0)], &[(256, 0xFF)])],
-    ),
-];
+/// The blocks of the long string. The second one stores word 256 alone, so those after it are as the first one left
+/// them.
+const LONG: &str = "115:3F80E1C 116:7F0 256:706050403020100 509:1716151413121110 510:0 \
+    | 115:3F80E1C 116:1 256:18 257:F0E0D0C0B0A0908 509:1716151413121110";
 
 #[test]
 fn a_block_stands_on_the_page_in_its_buffer(rt: HostRuntime) -> Result<(), Fail> {
     let alloc = rt.alloc();
-    for (code, len, events) in TALKS {
-        let image = file_with_data(alloc, code, 0, len)?;
-        let mut files = folder(alloc, &image, b"", "")?;
-        let words = words_of(alloc, &["run", "image", "input", "10000"])?;
-        let mut out = MemSink::new(alloc, 2033)?;
-        let mut host = Watching::new(alloc, &[]);
-        let done = ghcb_main(&rt, alloc, &words, &mut files, &mut out, &mut host);
-        assert_eq!(rt; done.status, 0);
-        // The first page is that of the exchange of versions.
-        assert_eq!(rt; host.shown.len(), events.len() + 1);
-        for (page, (shown, _)) in host.shown.iter().skip(1).zip(events) {
-            assert!(rt; has_words(Some(page), OF_BLOCKS) && has_words(Some(page), shown));
-        }
-        for (page, (_, left)) in host.left.iter().skip(1).zip(events) {
-            assert!(rt; has_words(Some(page), OF_REPLIES) && has_words(Some(page), left));
-        }
-    }
+    let image = file_with_data(alloc, PRINTS, 0, 2033)?;
+    assert!(rt; talks(&rt, alloc, &image, 2, [LONG, ""])?);
+    let image = file_with_data(alloc, READS_DOWN, 0, 0)?;
+    assert!(rt; talks(&rt, alloc, &image, 1, ["115:500024D 116:2", "256:0"])?);
+    let image = file_with_data(alloc, READS_ONE, 0, 1)?;
+    assert!(rt; talks(&rt, alloc, &image, 1, ["115:215 116:1 256:0", "256:FF"])?);
     Ok(())
 }
-
-/// A guest with three bytes of data, the address of its handler of #GP or 0, a script, and the parts of what is
-/// written of its run on the script's words.
-type Scripted<'a> = (&'a [u8], u32, &'a str, [&'a str; 5]);
 
 /// The exchange of versions.
 const VERSIONS: &str = "exit 0000000000000002
@@ -231,17 +186,8 @@ store 511 0000000000010000
 exit 0000000080000000
 ";
 
-const SCRIPTED: [Scripted; 3] = [
-    (
-        &READS_DOWN,
-        0,
-        "0001000133000001
-0000000000000000
-1111111122222222
-",
-        [
-            VERSIONS,
-            "store 126 0000000000000000
+/// The block that is cut where the code is, and its reply.
+const DOWN: &str = "store 126 0000000000000000
 store 127 0000000000000000
 store 114 000000000000007b
 store 115 000000000500024d
@@ -254,88 +200,39 @@ exit 0000000080000000
 load 115 0000000000000000
 load 256 1111111122222222
 end bad-address 0000000000000010 steps 6
-",
-            "",
-            "",
-            "",
-        ],
-    ),
-    // The block is answered with #GP(0), and there is no handler, ..
-    (
-        &PRINTS_THREE,
-        0,
-        "0001000133000001
-0000000000000001
-0000000080000b0d
-",
-        [
-            VERSIONS,
-            THREE,
-            "load 115 0000000000000001
-load 116 0000000080000b0d
-end fault 13 steps 3
-",
-            "",
-            "",
-        ],
-    ),
-    // .. or the handler is the instruction itself: it shows the same block again.
-    (
-        &PRINTS_THREE,
-        15,
-        "0001000133000001
-0000000000000001
-0000000080000b0d
-",
-        [
-            VERSIONS,
-            THREE,
-            "load 115 0000000000000001
-load 116 0000000080000b0d
-",
-            THREE,
-            "load 115 0000000000000000
-end halted steps 8
-",
-        ],
-    ),
-];
+";
 
 #[test]
-fn blocks_are_answered_by_a_script(rt: HostRuntime) -> Result<(), Fail> {
+fn a_block_of_input_is_answered_by_a_script(rt: HostRuntime) -> Result<(), Fail> {
     let alloc = rt.alloc();
-    for (code, handler, script, parts) in SCRIPTED {
-        let image = file_with_data(alloc, code, handler, 3)?;
-        let mut files = folder(alloc, &image, b"", script)?;
-        let words = words_of(alloc, &["hostile", "image", "script", "100"])?;
-        let mut out = MemSink::new(alloc, 2000)?;
-        let mut host = Hypervisor::new(alloc);
-        let done = ghcb_main(&rt, alloc, &words, &mut files, &mut out, &mut host);
-        assert_eq!(rt; done.status, 0);
-        let mut text = Vec::new(alloc);
-        for part in parts {
-            text.extend_from_slice(part.as_bytes())?;
-        }
-        assert_eq!(rt; out.written(), text.as_slice());
-    }
+    let image = file_with_data(alloc, READS_DOWN, 0, 3)?;
+    let script = "0001000133000001\n0000000000000000\n1111111122222222\n";
+    let mut files = folder(alloc, &image, b"", script)?;
+    assert!(rt; answers(&rt, alloc, &mut files, &[VERSIONS, DOWN])?);
     Ok(())
 }
 
 #[test]
-fn a_reply_has_no_count_and_no_buffer_of_its_own(rt: HostRuntime) -> Result<(), Fail> {
+fn a_block_of_output_is_answered_with_an_exception(rt: HostRuntime) -> Result<(), Fail> {
     let alloc = rt.alloc();
-    for (code, len, input, order, steps, end) in ROWS {
-        let image = file_with_data(alloc, code, 0, len)?;
-        let mut files = folder(alloc, &image, input, "")?;
-        let words = words_of(alloc, &["run", "image", "input", "100"])?;
-        let mut out = MemSink::new(alloc, 0)?;
-        // Another count and another buffer in each reply.
-        let mut host = Watching::new(alloc, &[(116, 0xFFFF), (117, 0x8000_1800)]);
-        let done = ghcb_main(&rt, alloc, &words, &mut files, &mut out, &mut host);
-        assert_eq!(rt; done.status, 0);
-        assert_eq!(rt; done.order.as_slice(), order);
-        assert_eq!(rt; done.steps.as_slice(), [steps].as_slice());
-        assert_eq!(rt; done.ends.as_slice(), [end].as_slice());
-    }
+    let script = "0001000133000001\n0000000000000001\n0000000080000b0d\n";
+    let loads = "load 115 0000000000000001\nload 116 0000000080000b0d\n";
+    // There is no handler of #GP, ..
+    let image = file_with_data(alloc, PRINTS_THREE, 0, 3)?;
+    let mut files = folder(alloc, &image, b"", script)?;
+    let texts = [VERSIONS, THREE, loads, "end fault 13 steps 3\n"];
+    assert!(rt; answers(&rt, alloc, &mut files, &texts)?);
+    // .. or the handler is the instruction itself: it shows the same block again.
+    let image = file_with_data(alloc, PRINTS_THREE, 15, 3)?;
+    let mut files = folder(alloc, &image, b"", script)?;
+    let last = "load 115 0000000000000000\nend halted steps 8\n";
+    assert!(rt;
+        answers(
+            &rt,
+            alloc,
+            &mut files,
+            &[VERSIONS, THREE, loads, THREE, last]
+        )?
+    );
     Ok(())
 }

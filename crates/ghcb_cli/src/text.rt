@@ -12,8 +12,6 @@ pub enum Refused {
     ImageLimit,
     /// The image file breaks a rule of its format, and this is the first one.
     Image(ImageFault),
-    /// The image has more than one vCPU, and those don't run yet.
-    NotYet,
     /// The input has more than 16,777,216 bytes.
     InputLimit,
     /// The script has more than 16,777,216 bytes.
@@ -39,7 +37,6 @@ impl Refused {
         match self {
             Refused::ImageLimit => text.push_str("image limit"),
             Refused::Image(fault) => text.push_number("image ", u64::from(fault.number())),
-            Refused::NotYet => text.push_str("not-yet"),
             Refused::InputLimit => text.push_str("input limit"),
             Refused::ScriptLimit => text.push_str("script limit"),
             Refused::ScriptLine(line) => text.push_number("script line ", *line),

@@ -1,5 +1,6 @@
-//! `ghcb_run run IMAGE INPUT STEPS` runs a guest over a hypervisor and prints its console; `ghcb_run hostile IMAGE SCRIPT STEPS`
-//! runs it on the words of a script and prints its trace; `ghcb_run show page|msr|info HEX` prints what the digits mean.
+//! `ghcb_run run IMAGE INPUT STEPS` runs a guest over a hypervisor and prints its console, or with `report` its report;
+//! `ghcb_run plain IMAGE INPUT STEPS` runs it with the devices alone; `ghcb_run hostile IMAGE SCRIPT STEPS` runs it on the
+//! words of a script and prints its trace; `ghcb_run show page|msr|info HEX` prints what the digits mean.
 #![tactic(auto)]
 
 use ghcb_cli::ghcb_main;
