@@ -26,6 +26,16 @@ def words(folder):
     return "run", image(folder), given if given.exists() else NO_INPUT, STEPS
 
 
-def printed(folder):
-    """The file that has what is to be printed."""
-    return folder / ("trace" if folder.parent == HOSTILE else "stdout")
+def runs(folder):
+    """The words of each run of the example, and the file that has what it is to print.
+
+    A run with no page between guest and devices prints what one over the hypervisor does.
+    """
+    if folder.parent == HOSTILE:
+        yield words(folder), folder / "trace"
+        return
+    run, *rest = words(folder)
+    yield (run, *rest), folder / "stdout"
+    yield ("plain", *rest), folder / "stdout"
+    if (folder / "report").exists():
+        yield (run, *rest, "report"), folder / "report"

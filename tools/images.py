@@ -5,7 +5,7 @@ from mmio_guests import mmio_image
 from string_guests import string_image
 
 OURS = {"strings": string_image, "mmio": mmio_image}
-KINDS = ("events", "private", "wild", *OURS)
+KINDS = ("events", "private", "wild", *OURS, "smp")
 # String I/O is port I/O that shows SW_SCRATCH, word 117.
 STRING_IO = re.compile(rb"^store 114 0{14}7b\nstore 115 .*\nstore 116 .*\nstore 117 ", re.MULTILINE)
 MMIO = re.compile(rb"^store 114 0{8}8000000[12]$", re.MULTILINE)
