@@ -6,7 +6,7 @@ use page_words::Words;
 use std::test::Fail;
 
 /// The page of vCPU 0 with REP OUTSB of "abc" at the console's data port.
-const BLOCK_OUT: [(u16, u64); 7] = [
+pub const BLOCK_OUT: [(u16, u64); 7] = [
     (511, 0x1_0000),
     (127, 0x003C_0000_0000_0000),
     (114, 0x7B),

@@ -148,6 +148,7 @@ impl History {
 mod tests {
     use super::{History, KeptEntry, KeptEvent};
     use event_table::{Access, Block, Bytes, Turn};
+    use std::alloc::{AllocError as OutOfMemory, Global};
     use std::mem::size_of;
     use std::test::Fail;
 
@@ -204,6 +205,71 @@ mod tests {
         history.clear();
         assert_eq!(rt; history.len(), 0);
         assert_eq!(rt; history.turn(0), None);
+        Ok(())
+    }
+
+    /// What the bytes of a block are, by its number.
+    fn filling(number: u32) -> u8 {
+        (number % 251) as u8
+    }
+
+    /// So many blocks of so many bytes each, with the bytes of their numbers.
+    fn filled<const LEN: usize>(alloc: Global, many: u32) -> Result<History, OutOfMemory>
+        requires few { LEN ≤ 2032 }
+    {
+        let mut history = History::new(alloc);
+        let mut block = block(b"", LEN as u16);
+        for number in 0..many {
+            block.bytes.truncate(0);
+            block.bytes.extend_from_slice(&[filling(number); LEN]);
+            history.push_block(1, &block)?;
+        }
+        Ok(history)
+    }
+
+    /// The bytes of an entry: none where it is no block.
+    fn bytes_of<'a>(history: &'a History, entry: &KeptEntry) -> &'a [u8] {
+        match entry.event {
+            KeptEvent::One(_) => &[],
+            KeptEvent::Many(block) => history
+                .bytes
+                .get(block.start..)
+                .and_then(|rest| rest.get(..usize::from(block.len)))
+                .unwrap_or(&[]),
+        }
+    }
+
+    /// Whether an entry is the block of that number with so many bytes.
+    fn is_block(history: &History, number: u32, len: usize) -> bool {
+        let Some(entry) = history.entries.get(number as usize) else {
+            return false;
+        };
+        let bytes = bytes_of(history, entry);
+        entry.vcpu == 1 && bytes.len() == len && bytes.iter().all(|byte| *byte == filling(number))
+    }
+
+    /// Whether the entries are so many such blocks.
+    fn are_blocks(history: &History, many: u32, len: u16) -> bool {
+        let turn = Some(Turn {
+            vcpu: 1,
+            count: len,
+        });
+        history.len() == u64::from(many)
+            && (0..many).all(|number| history.turn(u64::from(number)) == turn
+                && is_block(history, number, usize::from(len)))
+    }
+
+    #[test]
+    fn a_million_blocks_of_one_byte_are_read_back(rt: HostRuntime) -> Result<(), Fail> {
+        let history = filled::<1>(rt.alloc(), 1_000_000)?;
+        assert!(rt; are_blocks(&history, 1_000_000, 1));
+        Ok(())
+    }
+
+    #[test]
+    fn a_thousand_full_blocks_are_read_back(rt: HostRuntime) -> Result<(), Fail> {
+        let history = filled::<2032>(rt.alloc(), 1000)?;
+        assert!(rt; are_blocks(&history, 1000, 2032));
         Ok(())
     }
 }

@@ -13,6 +13,8 @@ mod history;
 mod host;
 mod hypervisor;
 #[cfg(test)]
+mod memory_tests;
+#[cfg(test)]
 mod mmio_tests;
 mod reading;
 mod reply;

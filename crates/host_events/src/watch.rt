@@ -110,4 +110,21 @@ mod tests {
         assert!(rt; watch.pages().is_empty());
         Ok(())
     }
+
+    fn crosses<T: Send>(value: T) -> T
+        ensures { result ≡ value }
+    {
+        value
+    }
+
+    fn is_shared<T: Sync>(_: &T) {}
+
+    #[test]
+    fn hosts_go_to_another_thread(rt: HostRuntime) {
+        let host = crosses(Hypervisor::new(rt.alloc()));
+        is_shared(&host);
+        let watch = crosses(Watch::new(rt.alloc(), host));
+        is_shared(&watch);
+        assert!(rt; watch.pages().is_empty());
+    }
 }

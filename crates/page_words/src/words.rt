@@ -118,4 +118,19 @@ mod tests {
         assert_eq!(rt; copy.msr_word(), 2);
         Ok(())
     }
+
+    fn crosses<T: Send>(value: T) -> T
+        ensures { result ≡ value }
+    {
+        value
+    }
+
+    fn is_shared<T: Sync>(_: &T) {}
+
+    #[test]
+    fn a_page_goes_to_another_thread(rt: HostRuntime) {
+        let page = crosses(Words::new());
+        is_shared(&page);
+        assert_eq!(rt; page.msr_word(), 0);
+    }
 }

@@ -1,5 +1,6 @@
 pub mod Asking
 pub mod Full
+pub mod Good
 pub mod Over
 pub mod PlainEnds
 pub mod PlainRounds

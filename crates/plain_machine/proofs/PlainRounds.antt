@@ -1,25 +1,19 @@
 -- Rounds of the plain machine.
-use Rattle.std.proofs.Common.{◌≡◌, ℕ, suc, zero, ◌+◌, ◌-◌, ◌<◌, ◌≤◌, Bool, true, List, [], ◌∷◌, ◌++◌, length, Option, Some, None, refl, sym, ap, ◌∙◌, arith, subst, eq-eqb}
-use Rattle.std.specs.Prelude.{slice_get, slice_set, option_and_then, option_map, if◌then◌else◌}
+use Rattle.std.proofs.Common.{◌≡◌, ℕ, suc, zero, ◌+◌, ◌-◌, ◌≤◌, Bool, true, List, [], ◌∷◌, ◌++◌, length, Option, Some, None, refl, sym, ap, ◌∙◌, arith, subst}
+use Rattle.std.specs.Prelude.{slice_get, slice_set, option_and_then, if◌then◌else◌}
 use Rattle.std.proofs.lemmas.List.{map-append, length-set}
 use Rattle.image_file.specs.Image.{Contents}
 use Rattle.event_table.specs.declared.event.Event.{Event}
 use Rattle.event_table.specs.declared.turn.Turn.{Turn}
-use Rattle.event_table.specs.Lawful.{count_of}
-use Rattle.event_table.specs.Plan.{Stepped, Moved, Exits, Stops}
-use Rattle.guest_interp.specs.Stepping.{Counted, at_count, step_of, Standstill, Waits, Ended, stop_after, stop_answered, next_of, next_within, start_of}
+use Rattle.guest_interp.specs.Stepping.{Counted, Standstill, Waits, Ended, start_of}
 use Rattle.event_table.specs.declared.turn.Entry.{Entry}
 use Rattle.device_bus.specs.Devices.{Devices}
 use Rattle.event_table.specs.Turns.{turn_of, turns_of}
 use Rattle.device_bus.specs.History.{after_event, after_history}
 use Rattle.device_bus.proofs.Histories.{after_history-append}
-use Rattle.event_table.specs.Ending.{IsOver}
-use Rattle.plain_machine.specs.Plain.{Machine, first_stops, machine_at_start, event_done, item_where, stop_after_event, item, along, all_ended, where_ended, visit_where, visit, visits, rounds, rounds_machine, RoundsRun}
-use Rattle.plain_machine.specs.Single.{Accessed, at_once, event_applied, singles}
-use Rattle.plain_machine.proofs.Asking.{exits_by}
-use Rattle.plain_machine.proofs.Full.{IsFull, full_applied, full_step, some_access}
-use Rattle.plain_machine.proofs.Over.{applied_over}
-use Rattle.plain_machine.proofs.Singles.{event_singles}
+use Rattle.plain_machine.specs.Plain.{Machine, first_stops, machine_at_start, event_done, item, along, all_ended, where_ended, visit_where, visit, visits, rounds, rounds_machine, RoundsRun}
+use Rattle.plain_machine.specs.Single.{at_once}
+use Rattle.plain_machine.proofs.Good.{IsGood, IsGoodWait, good_next, good_stop, item_at}
 
 then_same : (image : Contents) (budget : ℕ) (xs ys : List Turn) (o : Option Machine) →
     ((next : Machine) → along image budget (xs ++ ys) next ≡ option_and_then (λ last. along image budget ys last) (along image budget xs next)) →
@@ -31,32 +25,6 @@ along-append : (image : Contents) (budget : ℕ) (xs ys : List Turn) (m : Machin
     along image budget (xs ++ ys) m ≡ option_and_then (λ next. along image budget ys next) (along image budget xs m)
 along-append image budget [] ys m = refl
 along-append image budget (x ∷ xs) ys m = then_same image budget xs ys (item image budget m x) (λ next. along-append image budget xs ys next)
-
--- A vCPU that waits: with a count from low on and below the budget, at the instruction that asks, for an access at least.
-pub record IsGoodWait (low budget : ℕ) (event : Event) (c : Counted) : Type 0 where
-  pub from : low ≤ c.steps
-  pub under : c.steps < budget
-  pub exits : step_of c.vcpu ≡ Exits event c.vcpu
-  pub full : length c.vcpu.regs.gpr ≡ 16
-  pub some : 1 ≤ count_of event
-
-abbrev pub IsGood : ℕ → ℕ → Standstill → Type 0
-IsGood low budget (Waits event c) = IsGoodWait low budget event c
-IsGood low budget (Ended end c) = Unit {0}
-
-good_by : (low budget : ℕ) (c : Counted) (s : Stepped) (more : Counted → Standstill) → step_of c.vcpu ≡ s → IsFull s → low ≤ c.steps → c.steps < budget →
-    ((gone : Counted) → gone.steps ≡ c.steps + 1 → length gone.vcpu.regs.gpr ≡ 16 → IsGood low budget (more gone)) → IsGood low budget (stop_after c.steps s more)
-good_by low budget c (Moved v) more is full from under goes = goes (at_count v (c.steps + 1)) refl full
-good_by low budget c (Exits event v) more is full from under goes =
-    let by = exits_by c.vcpu v event is in
-    record { from = from; under = under; exits = ap step_of by.0 ∙ is; full = full; some = some_access c.vcpu event by.1 }
-good_by low budget c (Stops end v) more is full from under goes = tt
-
-good_next : (low budget left : ℕ) (c : Counted) → low ≤ c.steps → left ≡ budget - c.steps → length c.vcpu.regs.gpr ≡ 16 → IsGood low budget (next_of left c)
-good_next low budget zero c from is full = tt
-good_next low budget (suc left) c from is full =
-    good_by low budget c (step_of c.vcpu) (λ gone. next_of left gone) refl (full_step c.vcpu full) from (omega arith)
-    (λ gone one filled. good_next low budget left gone (omega (arith, one)) (omega (arith, one)) filled)
 
 -- every vCPU is good; the first so many have one more step
 abbrev pub AllGood : ℕ → ℕ → ℕ → List Standstill → Type 0
@@ -85,16 +53,6 @@ good_round : (low budget : ℕ) (ss : List Standstill) → AllGood low budget (l
 good_round low budget [] all = tt
 good_round low budget (x ∷ xs) all = (all.0, good_round low budget xs all.1)
 
-good_further : (low budget count steps : ℕ) (s : Stepped) → IsOver s → IsFull s → low ≤ steps → 1 ≤ count → IsGood (suc low) budget (stop_answered count steps s (λ gone. next_within budget gone))
-good_further low budget count steps (Moved v) over full from some = good_next (suc low) budget (budget - (steps + count)) (at_count v (steps + count)) (omega arith) refl full
-good_further low budget count steps (Exits event v) over full from some = absurd over
-good_further low budget count steps (Stops end v) over full from some = tt
-
--- an answered event adds a step to its vCPU or ends it
-good_stop : (image : Contents) (low budget i : ℕ) (e : Event) (c : Counted) (d : Devices) → IsGoodWait low budget e c → IsGood (suc low) budget (stop_after_event image budget i e c d)
-good_stop image low budget i e c d good =
-    good_further low budget (count_of e) c.steps (event_applied image i e c.vcpu d) (applied_over image i e c.vcpu d) (full_applied image i e c.vcpu d good.full) good.from good.some
-
 -- The events so far are an order that leads here, the devices are what they leave, and every vCPU is good.
 pub record Reached (image : Contents) (budget : ℕ) (start m : Machine) (low k : ℕ) : Type 0 where
   pub leads : along image budget (turns_of m.events) start ≡ Some m
@@ -119,10 +77,7 @@ reached_where image budget k start m low (Some (Waits e v)) at r =
     let here : IsGoodWait low budget e v = good_get low budget k m.stops (Waits e v) r.good at in
     let entry : Entry = record { vcpu = k; event = e } in
     let after : Machine = event_done budget k e v m (at_once image k e v.vcpu m.devices) in
-    let one : item image budget m (turn_of entry) ≡ Some after =
-    ap (λ (o : Option Standstill). item_where image budget (turn_of entry) o m) at
-    ∙ ap (λ (t : Bool). if t then option_map (λ a. event_done budget k e v m a) (singles image k (count_of e) (Moved v.vcpu) m.devices) else None) (eq-eqb (count_of e) (count_of e) refl)
-    ∙ ap (λ (o : Option Accessed). option_map (λ a. event_done budget k e v m a) o) (event_singles image k e v.vcpu m.devices here.full here.exits) in
+    let one : item image budget m (turn_of entry) ≡ Some after = item_at image budget low m entry v at here in
     record {
       leads =
           ap (λ turns. along image budget turns start) (map-append turn_of m.events (entry ∷ []))

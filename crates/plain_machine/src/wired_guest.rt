@@ -16,7 +16,7 @@ use guest_interp::{Guest, Stop};
 use image_file::{Image, Ram};
 use x86_base::Insn;
 
-/// The results of a block: it has none in registers.
+/// No results in registers.
 const NO_VALUES: Values = Values {
     a: 0,
     c: 0,
@@ -32,6 +32,8 @@ pub struct WiredGuest {
     pub insn: Insn,
     /// Where it waits for an event, the event.
     pub event: Event,
+    /// Where the devices' answer is put together.
+    pub reply: Reply,
 }
 
 impl WiredGuest {
@@ -44,6 +46,10 @@ impl WiredGuest {
             guest: Guest::start(image, number, ram),
             insn: Insn::NOP,
             event: Event::One(Access::Wbinvd),
+            reply: Reply {
+                values: NO_VALUES,
+                bytes: Bytes::new(),
+            },
         }
     }
 
@@ -70,20 +76,21 @@ impl WiredGuest {
         ensures devices { bus.new.devices ≡ after_event bus.old.devices number self.old.event }
         ensures vcpus { bus.new.devices.vcpus ≡ bus.old.devices.vcpus }
     {
-        let reply = match &self.event {
+        match &self.event {
             Event::One(access) => match bus.access(number, access) {
-                Answer::Done(values) => Reply {
-                    values,
-                    bytes: Bytes::new(),
-                },
+                Answer::Done(values) => {
+                    self.reply.values = values;
+                    self.reply.bytes.truncate(0);
+                }
                 Answer::Raise { vector, code } => return self.guest.deliver(image, vector, code),
             },
-            Event::Many(block) => Reply {
-                values: NO_VALUES,
-                bytes: block_bytes(bus, number, block),
-            },
-        };
-        self.guest.place_results(&self.insn, &self.event, &reply);
+            Event::Many(block) => {
+                self.reply.values = NO_VALUES;
+                self.reply.bytes = block_bytes(bus, number, block);
+            }
+        }
+        self.guest
+            .place_results(&self.insn, &self.event, &self.reply);
         Ok(())
     }
 

@@ -46,7 +46,7 @@ use Rattle.round_runner.proofs.Meeting.{asking, offered, offers, asks_nothing, h
 use Rattle.round_runner.proofs.Talking.{shown_own, pages_own, pages_other}
 
 -- what a vCPU says is on its page
-says_on : (old new : Kept) (items : List Item) → Makes (keeping old) items (keeping new) → new ≡ kept_after_all old items
+pub says_on : (old new : Kept) (items : List Item) → Makes (keeping old) items (keeping new) → new ≡ kept_after_all old items
 says_on old new items makes = same_Some _ _ (ap (λ (t : Told). t.kept) makes.leaves ∙ kept-after_all (keeping old) items old refl)
 
 -- a vCPU over its page that goes on to this stop
@@ -94,22 +94,27 @@ answered_left : (image : Contents) (i : ℕ) (e : Event) (c : Counted) (d : Devi
 answered_left image i (One access) c d k = answer_left image i access c (answer d i access) k
 answered_left image i (Many block) c d k = refl
 
--- from the reply to the next stop
-pub answered_at : (image : Contents) (budget i : ℕ) (e : Event) (c : Counted) (d : Devices) (v0 v1 v2 : State) (page1 page2 page3 : Kept) →
+-- what a vCPU makes of the reply to its event; the page stays
+pub replied : (image : Contents) (i : ℕ) (e : Event) (c : Counted) (d : Devices) (v0 v1 : State) (page1 page2 : Kept) →
     v0 ≡ state i c (phase.Waits e) → outcome_on e page1 ≡ outcome_to d i e → Runs (resuming image v0) v1 (keeping page1) (keeping page2) →
-    Makes (keeping page2) (items_said budget v1) (keeping page3) → v2 ≡ state_advanced budget v1 → Goes budget i (stop_after_event image budget i e c d) page1 v2 page3
-answered_at image budget i e c d v0 v1 v2 page1 page2 page3 is outcome runs makes goes =
-    let gone = event_applied image i e c.vcpu d in
-    let left : found_in (resuming image v0) page1 ≡ record { value = state_answered i (count_of e) c.steps gone; page = page1 } =
+    (v1 ≡ state_answered i (count_of e) c.steps (event_applied image i e c.vcpu d)) × (page2 ≡ page1)
+replied image i e c d v0 v1 page1 page2 is outcome runs =
+    let left : found_in (resuming image v0) page1 ≡ record { value = state_answered i (count_of e) c.steps (event_applied image i e c.vcpu d); page = page1 } =
     ap (λ (x : State). found_in (resuming image x) page1) is
     ∙ found_listen (accepting e) (λ o. settling image i c e o) page1
     ∙ ap (λ (o : Outcome). found_in (settling image i c e o) page1) outcome
     ∙ answered_left image i e c d page1 in
     let kept = runs_kept (resuming image v0) v1 (keeping page1) (keeping page2) page1 refl runs in
-    let value : v1 ≡ state_answered i (count_of e) c.steps gone = kept.0 ∙ ap (λ (l : Left State). l.value) left in
-    let same : page2 ≡ page1 = same_Some _ _ kept.1 ∙ ap (λ (l : Left State). l.page) left in
-    subst (λ (p : Kept). Goes budget i (stop_after_event image budget i e c d) p v2 page3) same
-    (landed_at budget i (count_of e) c.steps gone v1 v2 page2 page3 (applied_over image i e c.vcpu d) value makes goes)
+    (kept.0 ∙ ap (λ (l : Left State). l.value) left, same_Some _ _ kept.1 ∙ ap (λ (l : Left State). l.page) left)
+
+-- from the reply to the next stop
+pub answered_at : (image : Contents) (budget i : ℕ) (e : Event) (c : Counted) (d : Devices) (v0 v1 v2 : State) (page1 page2 page3 : Kept) →
+    v0 ≡ state i c (phase.Waits e) → outcome_on e page1 ≡ outcome_to d i e → Runs (resuming image v0) v1 (keeping page1) (keeping page2) →
+    Makes (keeping page2) (items_said budget v1) (keeping page3) → v2 ≡ state_advanced budget v1 → Goes budget i (stop_after_event image budget i e c d) page1 v2 page3
+answered_at image budget i e c d v0 v1 v2 page1 page2 page3 is outcome runs makes goes =
+    let after = replied image i e c d v0 v1 page1 page2 is outcome runs in
+    subst (λ (p : Kept). Goes budget i (stop_after_event image budget i e c d) p v2 page3) after.1
+    (landed_at budget i (count_of e) c.steps (event_applied image i e c.vcpu d) v1 v2 page2 page3 (applied_over image i e c.vcpu d) after.0 makes goes)
 
 told_on : (image : Contents) (budget i : ℕ) (e : Event) (v : Counted) (page : Kept) (d : Devices) (h0 h1 : Hosting) (order0 order1 : List Turn) (m : Machine) →
     Agrees i e page m.devices → Tells d h0 order0 m → h1 ≡ after_serve i page h0 → order1 ≡ order0 ++ turn_of (record { vcpu = i; event = e }) ∷ [] →

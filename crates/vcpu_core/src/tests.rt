@@ -272,3 +272,17 @@ fn an_exception_in_the_place_of_a_block_is_delivered_once(rt: HostRuntime) -> Re
     assert!(rt; halts(&image, &mut vcpu, &mut page, 5));
     Ok(())
 }
+
+fn crosses<T: Send>(value: T) -> T {
+    value
+}
+
+fn is_shared<T: Sync>(_: &T) {}
+
+#[test]
+fn a_vcpu_goes_to_another_thread(rt: HostRuntime) -> Result<(), Fail> {
+    let image = printing(rt.alloc())?;
+    let vcpu = crosses(Vcpu::new(&image, 0, image.ram(rt.alloc())?));
+    is_shared(&vcpu);
+    Ok(())
+}
