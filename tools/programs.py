@@ -17,9 +17,9 @@ from typing import NamedTuple
 TOP = Path(__file__).resolve().parent.parent
 SCRIPT = Path(sys.argv[0]).name
 # The model answers for later versions of `ghcb_run` too. Its variable ORACLE_STAGE and its words --proto 1 say how
-# far it is to go: stage 8 of version 1 of the protocol has several vCPUs, runs with no page between guest and devices,
-# and reports.
-MODEL_VARIABLES = {"ORACLE_STAGE": "8"}
+# far it is to go: stage 9 of version 1 of the protocol has several vCPUs, runs with no page between guest and devices,
+# reports, and images from a number.
+MODEL_VARIABLES = {"ORACLE_STAGE": "9"}
 MODEL_WORDS = ("--proto", "1")
 SECONDS = 300
 WORKERS = 2

@@ -1,16 +1,16 @@
 -- What the program is to say, from what its parts found.
-use Rattle.std.proofs.Common.{◌≡◌, ℕ, ◌⊎◌, Bool, false, inl, inr, List, Option, Some, None, Result, Ok, Err, refl, sym, ap, ◌∙◌}
+use Rattle.std.proofs.Common.{◌≡◌, ℕ, ◌⊎◌, Bool, true, false, inl, inr, List, Option, Some, None, Result, Ok, Err, refl, sym, ap, ◌∙◌}
 use Rattle.std.specs.Prelude.{IfSome, option_map}
 use Rattle.std.proofs.lemmas.Option.{same_Some}
 use Rattle.image_file.specs.Image.{Contents}
 use Rattle.host_events.specs.Hosting.{Hosting}
 use Rattle.ghcb_cli.specs.declared.command.Command.{Command}
-use Rattle.ghcb_cli.specs.declared.command.Command.TheVariants.{Run, Plain, Hostile, ShowPage, ShowMsr, ShowInfo}
+use Rattle.ghcb_cli.specs.declared.command.Command.TheVariants.{Run, Plain, Hostile, ShowPage, ShowMsr, ShowInfo, Make}
 use Rattle.ghcb_cli.specs.declared.text.Refused.{Refused}
-use Rattle.ghcb_cli.specs.Command.{command_of, reading_by, reading_of, command_word}
+use Rattle.ghcb_cli.specs.Command.{command_of, reading_by, reading_of, command_word, calls_host}
 use Rattle.ghcb_cli.specs.Ending.{IsKnown, IsText}
 use Rattle.ghcb_cli.specs.Files.{Folder, Holds, AreRefused, IsAbsent, IsFirstRefusal}
-use Rattle.ghcb_cli.specs.Said.{Said, Making, IsMadeBy, running, answering, said_with, said_of_files, said_by, said_over, said, says_usage, says_refused, says_output, IsToEnd}
+use Rattle.ghcb_cli.specs.Said.{Said, Making, IsMadeBy, running, answering, said_with, said_of_files, said_by, said_over, said, summary_of, says_usage, says_refused, says_output, IsToEnd}
 use Rattle.ghcb_cli.specs.Text.{usage}
 
 pub made_by_run : (steps : ℕ) (report : Bool) → IsMadeBy (Run steps report) (running report steps)
@@ -80,10 +80,15 @@ pub to_end : (folder : Option Folder) (words : List (List ℕ)) (s : Said) → I
 to_end None words s is = tt
 to_end (Some f) words s is = (s, is, refl)
 
-no_command : {P : Type 0} (words : List (List ℕ)) (c : Command) → command_of words ≡ Some c → command_of words ≡ None → P
+pub no_command : {P : Type 0} (words : List (List ℕ)) (c : Command) → command_of words ≡ Some c → command_of words ≡ None → P
 no_command words c command none = let wrong : Some c ≡ None = sym command ∙ none in cc
 
-no_reading : {P : Type 0} (words : List (List ℕ)) (c : Command) (reading : List ℕ) → ((digits : List ℕ) → reading_by digits (Some c) ≡ None) → command_of words ≡ Some c → reading_of words ≡ Some reading → P
+-- a command that runs an image over the host calls it
+pub called : {P : Type 0} (words : List (List ℕ)) (c : Command) → command_of words ≡ Some c → calls_host (Some c) ≡ true → calls_host (command_of words) ≡ false → P
+called words c command calls none =
+    let wrong : true ≡ false = sym calls ∙ ap (λ (x : Option Command). calls_host x) (sym command) ∙ none in cc
+
+pub no_reading : {P : Type 0} (words : List (List ℕ)) (c : Command) (reading : List ℕ) → ((digits : List ℕ) → reading_by digits (Some c) ≡ None) → command_of words ≡ Some c → reading_of words ≡ Some reading → P
 no_reading words c reading unread command reads =
     let wrong : None ≡ Some reading = sym (ap (λ (x : Option Command). reading_by (command_word words 2) x) command ∙ unread (command_word words 2)) ∙ reads in cc
 
@@ -100,6 +105,23 @@ text_is m c made folder words h text s command is same = record {
   shown = λ reading reads. no_reading words c reading made.unread command reads;
   inside = text_inside folder words h text s is same;
 }
+
+said_made : (folder : Option Folder) (words : List (List ℕ)) (number : ℕ) → command_of words ≡ Some (Make number) → IfSome folder (λ f. said f words ≡ Some (says_output (summary_of number)))
+said_made None words number command = tt
+said_made (Some f) words number command =
+    ap (λ (c : Option Command). said_by (f (command_word words 1)) (f (command_word words 2)) (command_word words 2) c) command
+
+-- the text of a made image's run
+pub made_text : (folder : Option Folder) (words : List (List ℕ)) (h : Hosting) (number : ℕ) (text : List ℕ) → command_of words ≡ Some (Make number) →
+    (IsKnown words h (says_output (summary_of number)) → text ≡ summary_of number) → IsText folder words h text
+made_text folder words h number text command same = record {
+  outside = λ none. no_command words (Make number) command none;
+  shown = λ reading reads. no_reading words (Make number) reading (λ digits. refl) command reads;
+  inside = text_inside folder words h text (says_output (summary_of number)) (said_made folder words number command) same;
+}
+
+pub made_is : (folder : Option Folder) (words : List (List ℕ)) (number : ℕ) → command_of words ≡ Some (Make number) → IsToEnd folder words 0
+made_is folder words number command = to_end folder words (says_output (summary_of number)) (said_made folder words number command)
 
 said_usage : (folder : Option Folder) (words : List (List ℕ)) → command_of words ≡ None → IfSome folder (λ f. said f words ≡ Some says_usage)
 said_usage None words none = tt
@@ -126,6 +148,7 @@ shown_by i j digits text None reads = cc
 shown_by i j digits text (Some (Run steps report)) reads = cc
 shown_by i j digits text (Some (Plain steps)) reads = cc
 shown_by i j digits text (Some (Hostile steps)) reads = cc
+shown_by i j digits text (Some (Make number)) reads = cc
 shown_by i j digits text (Some ShowPage) reads = ap (λ o. option_map (λ text. says_output text) o) reads
 shown_by i j digits text (Some (ShowMsr word)) reads = ap (λ o. option_map (λ text. says_output text) o) reads
 shown_by i j digits text (Some (ShowInfo word)) reads = ap (λ o. option_map (λ text. says_output text) o) reads

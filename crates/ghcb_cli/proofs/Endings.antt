@@ -3,23 +3,25 @@ use Rattle.std.proofs.Common.{◌≡◌, ℕ, ◌⊎◌, Bool, true, false, inl,
 use Rattle.std.specs.Prelude.{IfSome}
 use Rattle.std.proofs.lemmas.Option.{same_Some}
 use Rattle.image_file.specs.Image.{Contents}
+use Rattle.image_file.specs.Made.{made_contents}
 use Rattle.host_events.specs.Hosting.{Hosting}
 use Rattle.run_io.specs.Outside.{SinkTold, FailsToPut, HasSpace, wrote}
 use Rattle.ghcb_cli.specs.declared.command.Command.{Command}
-use Rattle.ghcb_cli.specs.declared.command.Command.TheVariants.{Run, Plain, Hostile}
+use Rattle.ghcb_cli.specs.declared.command.Command.TheVariants.{Run, Plain, Hostile, Make}
 use Rattle.ghcb_cli.specs.declared.commands.Ending.{Ending}
 use Rattle.ghcb_cli.specs.declared.commands.Ending.TheVariants as ending
 use Rattle.ghcb_cli.specs.declared.files.Unready.{Unready}
 use Rattle.ghcb_cli.specs.declared.files.Unready.TheVariants as unready
-use Rattle.ghcb_cli.specs.Command.{command_of, reading_of, command_word}
-use Rattle.ghcb_cli.specs.Ending.{Told, FailsRead, FailsWrite, WantsMemory, EndsAs, PutsAs, WantsAs, GivesUpAs, RunEndsAs, PlainEndsAs, ScriptEndsAs, IsHandedBack, IsKnown, IsText}
+use Rattle.ghcb_cli.specs.Command.{command_of, reading_of, command_word, calls_host}
+use Rattle.ghcb_cli.specs.Ending.{Told, FailsRead, FailsWrite, WantsMemory, EndsAs, PutsAs, WantsAs, GivesUpAs, RunEndsAs, PlainEndsAs, MakeEndsAs, ScriptEndsAs, IsHandedBack, IsKnown, IsText}
 use Rattle.ghcb_cli.specs.Files.{Folder, Holds, AreRefused, AreUnread, input_in, image_in, script_in}
 use Rattle.ghcb_cli.specs.Said.{Said, Making, IsMadeBy, running, answering, answered_text, output_of, said, says_refused, says_output, IsToEnd}
+use Rattle.ghcb_cli.specs.MakeCommand.{made_summary}
 use Rattle.ghcb_cli.specs.RunCommand.{run_text}
 use Rattle.ghcb_cli.specs.Text.{usage, line_of}
 use Rattle.ghcb_cli.specs.Unready.{Explains}
-use Rattle.ghcb_cli.proofs.Answering.{made_by_run, made_by_plain, made_by_script, first_refused, none_said, said_output, text_is, to_end, usage_is, usage_text, shown_is, shown_text}
-use Rattle.ghcb_cli.proofs.Outputs.{output_shown, plain_output, runs_written}
+use Rattle.ghcb_cli.proofs.Answering.{made_by_run, made_by_plain, made_by_script, called, first_refused, none_said, said_output, text_is, made_text, made_is, to_end, usage_is, usage_text, shown_is, shown_text}
+use Rattle.ghcb_cli.proofs.Outputs.{output_shown, plain_output, runs_written, made_written, summary_is}
 
 -- a text was put, or a write of it failed
 put_ends : (words : List (List ℕ)) (text : List ℕ) (old new : Told) (done e : Ending) → PutsAs done text old.out new.out e →
@@ -27,7 +29,7 @@ put_ends : (words : List (List ℕ)) (text : List ℕ) (old new : Told) (done e 
 put_ends words text old new done e (inl put) ends fails = subst (λ (x : Ending). EndsAs words old new x) (sym put.0) (ends put.1)
 put_ends words text old new done e (inr failed) ends fails = subst (λ (x : Ending). EndsAs words old new x) (sym failed.0) (fails failed.1)
 
-wants_ends : (words : List (List ℕ)) (old new : Told) (e : Ending) → WantsAs old.out new.out e → (((steps : ℕ) (report : Bool) → command_of words ≡ Some (Run steps report) → ⊥) → new.host ≡ old.host) → EndsAs words old new e
+wants_ends : (words : List (List ℕ)) (old new : Told) (e : Ending) → WantsAs old.out new.out e → (calls_host (command_of words) ≡ false → new.host ≡ old.host) → EndsAs words old new e
 wants_ends words old new e wants uncalled =
     let memory : WantsMemory words old new = record { writes = ap (λ (p : SinkTold). p.written) wants.1; uncalled = uncalled } in
     subst (λ (x : Ending). EndsAs words old new x) (sym wants.0) memory
@@ -36,9 +38,9 @@ wants_ends words old new e wants uncalled =
 pub ran_ends : (words : List (List ℕ)) (steps : ℕ) (report : Bool) (image : Contents) (input : List ℕ) (old new : Told) (e : Ending) → command_of words ≡ Some (Run steps report) →
     Holds old.files.folder image_in (command_word words 1) (Ok image) → Holds old.files.folder input_in (command_word words 2) (Ok input) →
     RunEndsAs image input steps report old.host new.host old.out new.out e → EndsAs words old new e
-ran_ends words steps report image input old new e command first second (inr wants) = wants_ends words old new e wants (λ other. absurd (other steps report command))
+ran_ends words steps report image input old new e command first second (inr wants) = wants_ends words old new e wants (λ none. called words (Run steps report) command refl none)
 ran_ends words steps report image input old new e command first second (inl (f, console, run, inr wants)) =
-    wants_ends words old new e wants (λ other. absurd (other steps report command))
+    wants_ends words old new e wants (λ none. called words (Run steps report) command refl none)
 ran_ends words steps report image input old new e command first second (inl (f, console, run, inl put)) =
     let text = run_text report console f in
     let says = said_output (running report steps) (Run steps report) (made_by_run steps report) old.files.folder words image input command first second in
@@ -64,9 +66,9 @@ ran_ends words steps report image input old new e command first second (inl (f, 
       text = text;
       is_text =
           text_is (running report steps) (Run steps report) (made_by_run steps report) old.files.folder words old.host text (says_output whole) command says
-          (λ known. output_shown image steps report input f new.host console (run.ran (known steps report command refl)) run.shown);
+          (λ known. output_shown image steps report input f new.host console (run.ran (known (ap (λ (x : Option Command). calls_host x) command) refl)) run.shown);
       fails = fails;
-      uncalled = λ other. absurd (other steps report command);
+      uncalled = λ none. called words (Run steps report) command refl none;
     })
 
 -- how the run of the files with the devices alone ends
@@ -105,6 +107,29 @@ plain_ends words steps image input old new e command host first second (inl ran)
       uncalled = λ other. host;
     })
 
+-- how the run of the image that a number makes ends
+pub made_ends : (words : List (List ℕ)) (number : ℕ) (old new : Told) (e : Ending) → command_of words ≡ Some (Make number) → new.files ≡ old.files →
+    MakeEndsAs number old.host new.host old.out new.out e → EndsAs words old new e
+made_ends words number old new e command files (inr wants) = wants_ends words old new e wants (λ none. called words (Make number) command refl none)
+made_ends words number old new e command files (inl (f, console, run, put)) =
+    let text = made_summary number f console in
+    put_ends words text old new (ending.Made f) e put
+    (λ writes. record {
+      number = number;
+      command = command;
+      files = files;
+      ran = λ telling. made_written words number f new.host console old.out.written new.out.written command (run.ran telling) run.shown writes;
+      is_end = made_is old.files.folder words number command;
+    })
+    (λ fails. record {
+      text = text;
+      is_text =
+          made_text old.files.folder words old.host number text command
+          (λ known. summary_is number f new.host console (run.ran (known (ap (λ (x : Option Command). calls_host x) command) refl)) run.shown);
+      fails = fails;
+      uncalled = λ none. called words (Make number) command refl none;
+    })
+
 handed_ends : (words : List (List ℕ)) (steps : ℕ) (image : Contents) (script : List ℕ) (old new : Told) (done : Ending) → command_of words ≡ Some (Hostile steps) → new.host ≡ old.host →
     Holds old.files.folder image_in (command_word words 1) (Ok image) → Holds old.files.folder script_in (command_word words 2) (Ok script) →
     IsHandedBack image script steps done → new.out.written ≡ wrote old.out.written (answered_text image steps script) → EndsAs words old new done
@@ -128,6 +153,7 @@ handed_ends words steps image script old new (ending.Answered f heard) command h
 }
 handed_ends words steps image script old new (ending.Done f) command host first second handed writes = absurd handed
 handed_ends words steps image script old new (ending.Plain f) command host first second handed writes = absurd handed
+handed_ends words steps image script old new (ending.Made f) command host first second handed writes = absurd handed
 handed_ends words steps image script old new ending.Usage command host first second handed writes = absurd handed
 handed_ends words steps image script old new ending.Shown command host first second handed writes = absurd handed
 handed_ends words steps image script old new (ending.Refused r) command host first second handed writes = absurd handed
@@ -197,6 +223,7 @@ shown_ends words text old new e reads host files ends =
 abbrev pub status_of : Ending → ℕ
 status_of (ending.Done f) = 0
 status_of (ending.Plain f) = 0
+status_of (ending.Made f) = 0
 status_of (ending.Answered f heard) = 0
 status_of ending.Usage = 2
 status_of ending.Shown = 0
@@ -232,6 +259,7 @@ memory_so (Some f) words h out = λ s says known room. inr refl
 ends_so : (words : List (List ℕ)) (old new : Told) (e : Ending) → EndsAs words old new e → old.files.is_reliable ≡ true → EndsSo old.files.folder words old.host old.out (status_of e)
 ends_so words old new (ending.Done f) ends reliable = end_so old.files.folder words old.host old.out 0 ends.is_end
 ends_so words old new (ending.Plain f) ends reliable = end_so old.files.folder words old.host old.out 0 ends.is_end
+ends_so words old new (ending.Made f) ends reliable = end_so old.files.folder words old.host old.out 0 ends.is_end
 ends_so words old new (ending.Answered f heard) ends reliable = end_so old.files.folder words old.host old.out 0 ends.is_end
 ends_so words old new ending.Usage ends reliable = end_so old.files.folder words old.host old.out 2 (usage_is old.files.folder words ends.outside)
 ends_so words old new ending.Shown ends reliable = end_so old.files.folder words old.host old.out 0 (shown_is old.files.folder words ends.text ends.reads)

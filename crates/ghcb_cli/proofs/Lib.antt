@@ -3,3 +3,4 @@ pub mod Limits
 pub mod Outputs
 pub mod Answering
 pub mod Endings
+pub mod Grammar

@@ -1,8 +1,9 @@
 -- What a run prints.
-use Rattle.std.proofs.Common.{◌≡◌, ℕ, Bool, true, false, List, Option, sym, ap, ◌∙◌, subst}
+use Rattle.std.proofs.Common.{◌≡◌, ℕ, Bool, true, false, List, [], Option, Some, length, sym, ap, ◌∙◌, subst}
 use Rattle.std.specs.Prelude.{IfSome}
 use Rattle.std.proofs.lemmas.Option.{same_Some}
 use Rattle.image_file.specs.Image.{Contents}
+use Rattle.image_file.specs.Made.{made_code, made_contents}
 use Rattle.event_table.specs.declared.end.End.{End}
 use Rattle.event_table.specs.declared.turn.Finished.{Finished}
 use Rattle.event_table.specs.declared.turn.Turn.{Turn}
@@ -11,8 +12,12 @@ use Rattle.host_events.specs.Hosting.{Hosting}
 use Rattle.run_io.specs.Outside.{wrote}
 use Rattle.plain_machine.specs.Plain.{Machine, plain_run, rounds_machine, rounds_order, steps_of, ends_of}
 use Rattle.report_text.specs.Report.{report_text}
+use Rattle.report_text.specs.Summary.{summary_text}
+use Rattle.ghcb_cli.specs.declared.command.Command.TheVariants.{Make}
+use Rattle.ghcb_cli.specs.Command.{command_of}
+use Rattle.ghcb_cli.specs.MakeCommand.{RunsMade, make_steps, made_summary}
 use Rattle.ghcb_cli.specs.RunCommand.{Runs, run_text}
-use Rattle.ghcb_cli.specs.Said.{output_of, report_of, running}
+use Rattle.ghcb_cli.specs.Said.{output_of, report_of, summary_of, running}
 use Rattle.round_runner.specs.Ran.{RanRounds}
 use Rattle.plain_machine.specs.Ran.{RanPlain}
 use Rattle.plain_machine.proofs.PlainRounds.{rounds_plain}
@@ -63,3 +68,20 @@ plain_output image steps input f console ran =
     let machine : ran.machine ≡ rounds_machine image steps input =
     same_Some _ _ (sym ran.plain ∙ ap (λ (order : List Turn). plain_run image steps input order) ran.order ∙ (rounds_plain image steps input).0) in
     ran.output ∙ ap (λ (m : Machine). m.devices.console) machine
+
+pub made_written : (words : List (List ℕ)) (number : ℕ) (f : Finished) (h : Hosting) (console : List ℕ) (old new : Option (List ℕ)) → command_of words ≡ Some (Make number) → RanRounds (made_contents number) make_steps [] f h →
+    IfSome h.devices (λ d. console ≡ d.console) → new ≡ wrote old (made_summary number f console) → RunsMade words f h old new
+made_written words number f h console old new command ran shown wrote_it = record {
+  number = number;
+  command = command;
+  ran = ran;
+  writes = wrote_it ∙ ap (λ (t : List ℕ). wrote old (made_summary number f t)) (console_output (made_contents number) make_steps [] f h console ran shown);
+}
+
+-- the summary that is written is that of the machine after all rounds
+pub summary_is : (number : ℕ) (f : Finished) (h : Hosting) (console : List ℕ) → RanRounds (made_contents number) make_steps [] f h →
+    IfSome h.devices (λ d. console ≡ d.console) → made_summary number f console ≡ summary_of number
+summary_is number f h console ran shown =
+    let code = length (made_code number) in
+    ap (λ (c : List ℕ). summary_text number code (length f.order.items) c) (output_is (made_contents number) make_steps [] f h console ran shown)
+    ∙ ap (λ (o : List Turn). summary_text number code (length o) (output_of (made_contents number) make_steps [])) ran.order

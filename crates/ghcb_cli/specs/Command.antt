@@ -4,7 +4,7 @@ use Rattle.std.specs.Char.{is_ascii_digit}
 use Rattle.std.specs.List.{list_all}
 use Rattle.std.specs.Str.{bytes_eq}
 use Rattle.ghcb_cli.specs.declared.command.Command.{Command}
-use Rattle.ghcb_cli.specs.declared.command.Command.TheVariants.{Run, Plain, Hostile, ShowPage, ShowMsr, ShowInfo}
+use Rattle.ghcb_cli.specs.declared.command.Command.TheVariants.{Run, Plain, Hostile, ShowPage, ShowMsr, ShowInfo, Make}
 use Rattle.page_words.specs.Told.{Kept}
 use Rattle.show_text.specs.Digits.{word_of_digits, page_of_digits}
 use Rattle.show_text.specs.Info.{info_text}
@@ -34,6 +34,10 @@ most_steps = 2097152
 
 abbrev pub most_hostile_steps : ℕ
 most_hostile_steps = 65536
+
+-- the greatest number of which an image is made
+abbrev pub most_number : ℕ
+most_number = 65535
 
 -- a run over the host whose console is to be written, and one whose report is
 abbrev pub run_command : ℕ → Command
@@ -88,13 +92,21 @@ show_of kind digits =
 abbrev pub show_by : List ℕ → List ℕ → List ℕ → Option Command
 show_by name kind digits = if bytes_eq name (codes "show") then show_of kind digits else None
 
+abbrev pub make_command : ℕ → Command
+make_command number = Make number
+
+-- a made image by its two words
+abbrev pub make_by : List ℕ → List ℕ → Option Command
+make_by name number = if bytes_eq name (codes "make") then option_map make_command (decimal_of 0 most_number number) else None
+
 -- The grammar: `run IMAGE INPUT STEPS`, `run IMAGE INPUT STEPS report`, `plain IMAGE INPUT STEPS` and `hostile IMAGE SCRIPT
--- STEPS` with names that aren't empty, and 1 to 65,536 steps of the last one and 1 to 2,097,152 of the others; and `show page
--- HEX`, `show msr HEX` and `show info HEX` with the digits of a page or of a word.
+-- STEPS` with names that aren't empty, and 1 to 65,536 steps of the last one and 1 to 2,097,152 of the others; `show page HEX`,
+-- `show msr HEX` and `show info HEX` with the digits of a page or of a word; and `make N` with a number up to 65,535.
 abbrev pub command_of : List (List ℕ) → Option Command
 command_of (name ∷ image ∷ second ∷ steps ∷ last ∷ []) = report_by name image second steps last
 command_of (name ∷ image ∷ second ∷ steps ∷ []) = run_by name image second steps
 command_of (name ∷ kind ∷ digits ∷ []) = show_by name kind digits
+command_of (name ∷ number ∷ []) = make_by name number
 command_of _ = None
 
 -- a word by its place, or no bytes where there are fewer words
@@ -109,8 +121,15 @@ reading_by digits (Some (ShowInfo word)) = Some (info_text word)
 reading_by digits (Some (Run steps report)) = None
 reading_by digits (Some (Plain steps)) = None
 reading_by digits (Some (Hostile steps)) = None
+reading_by digits (Some (Make number)) = None
 reading_by digits None = None
 
 -- the reading that the words ask for, if they ask for one
 abbrev pub reading_of : List (List ℕ) → Option (List ℕ)
 reading_of words = reading_by (command_word words 2) (command_of words)
+
+-- whether a command runs an image over the host
+abbrev pub calls_host : Option Command → Bool
+calls_host (Some (Run steps report)) = true
+calls_host (Some (Make number)) = true
+calls_host _ = false

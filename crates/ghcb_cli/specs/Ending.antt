@@ -1,6 +1,7 @@
 -- How a call of the program ends, and what each end means.
-use Rattle.std.specs.Prelude.{◌≡◌, ◌⊎◌, ℕ, Bool, true, List, [], Option, Some, None, IfSome}
+use Rattle.std.specs.Prelude.{◌≡◌, ◌⊎◌, ℕ, Bool, true, false, List, [], Option, Some, None, IfSome}
 use Rattle.image_file.specs.Image.{Contents}
+use Rattle.image_file.specs.Made.{made_contents}
 use Rattle.event_table.specs.declared.turn.Finished.{Finished}
 use Rattle.host_events.specs.Hosting.{Hosting, IsTelling}
 use Rattle.run_io.specs.Outside.{FilesTold, SinkTold, Rose, FailsToPut, wrote}
@@ -11,10 +12,11 @@ use Rattle.ghcb_cli.specs.declared.commands.Ending.TheVariants as ending
 use Rattle.ghcb_cli.specs.declared.files.Unready.{Unready}
 use Rattle.ghcb_cli.specs.declared.files.Unready.TheVariants as unready
 use Rattle.plain_machine.specs.Ran.{RanPlain}
-use Rattle.ghcb_cli.specs.declared.command.Command.TheVariants.{Run, Plain, Hostile}
+use Rattle.ghcb_cli.specs.declared.command.Command.TheVariants.{Run, Plain, Hostile, Make}
 use Rattle.ghcb_cli.specs.declared.text.Refused.{Refused}
-use Rattle.ghcb_cli.specs.Command.{command_of, reading_of}
+use Rattle.ghcb_cli.specs.Command.{command_of, reading_of, calls_host}
 use Rattle.ghcb_cli.specs.Files.{Folder}
+use Rattle.ghcb_cli.specs.MakeCommand.{RunsMade, make_steps, made_summary}
 use Rattle.ghcb_cli.specs.PlainCommand.{RunsPlain}
 use Rattle.ghcb_cli.specs.RunCommand.{RunsFiles, run_text}
 use Rattle.ghcb_cli.specs.Said.{Said, said, says_refused, answered_text, IsToEnd}
@@ -30,13 +32,13 @@ pub record Told : Type 0 where
 abbrev pub told : FilesTold → SinkTold → Hosting → Told
 told files out host = record { files = files; out = out; host = host }
 
--- the host is called for a run over it alone
+-- the host is called for a run over it alone, of an image that is read or made
 abbrev pub IsUncalled : List (List ℕ) → Told → Told → Type 0
-IsUncalled words old new = ((steps : ℕ) (report : Bool) → command_of words ≡ Some (Run steps report) → ⊥) → new.host ≡ old.host
+IsUncalled words old new = calls_host (command_of words) ≡ false → new.host ≡ old.host
 
 -- the text is known of what is to be said: that of a run over a host needs a host that tells
 abbrev pub IsKnown : List (List ℕ) → Hosting → Said → Type 0
-IsKnown words h s = (steps : ℕ) (report : Bool) → command_of words ≡ Some (Run steps report) → s.status ≡ 0 → IsTelling h
+IsKnown words h s = calls_host (command_of words) ≡ true → s.status ≡ 0 → IsTelling h
 
 -- The text is what is to be said, where that is known: of the words alone where they are no command or ask for a reading.
 pub record IsText (folder : Option Folder) (words : List (List ℕ)) (h : Hosting) (text : List ℕ) : Type 0 where
@@ -59,6 +61,14 @@ pub record Computes (words : List (List ℕ)) (old new : Told) (f : Finished) : 
   pub ran : RunsPlain old.files.folder words f old.out.written new.out.written
   pub is_end : IsToEnd old.files.folder words 0
   pub host : new.host ≡ old.host
+
+-- the run of the image that a number makes, with its summary written
+pub record Makes (words : List (List ℕ)) (old new : Told) (f : Finished) : Type 0 where
+  pub number : ℕ
+  pub command : command_of words ≡ Some (Make number)
+  pub files : new.files ≡ old.files
+  pub ran : IsTelling old.host → RunsMade words f new.host old.out.written new.out.written
+  pub is_end : IsToEnd old.files.folder words 0
 
 -- the run on a script's words, with its text written
 pub record Answers (words : List (List ℕ)) (old new : Told) (f : Finished) (heard : List ℕ) : Type 0 where
@@ -111,6 +121,7 @@ pub record WantsMemory (words : List (List ℕ)) (old new : Told) : Type 0 where
 abbrev pub EndsAs : List (List ℕ) → Told → Told → Ending → Type 0
 EndsAs words old new (ending.Done f) = Finishes words old new f
 EndsAs words old new (ending.Plain f) = Computes words old new f
+EndsAs words old new (ending.Made f) = Makes words old new f
 EndsAs words old new (ending.Answered f heard) = Answers words old new f heard.items
 EndsAs words old new ending.Usage = Uses words old new
 EndsAs words old new ending.Shown = Shows words old new
@@ -148,6 +159,13 @@ RunEndsAs image input steps report before after old new e =
 abbrev pub PlainEndsAs : Contents → List ℕ → ℕ → SinkTold → SinkTold → Ending → Type 0
 PlainEndsAs image input steps old new e =
     ((f : Finished) × (text : List ℕ) × RanPlain image steps input f text × PutsAs (ending.Plain f) text old new e)
+    ⊎ WantsAs old new e
+
+-- how the run of the image that a number makes ends
+abbrev pub MakeEndsAs : ℕ → Hosting → Hosting → SinkTold → SinkTold → Ending → Type 0
+MakeEndsAs number before after old new e =
+    ((f : Finished) × (console : List ℕ) × IsRun (made_contents number) [] make_steps before after f console
+    × PutsAs (ending.Made f) (made_summary number f console) old new e)
     ⊎ WantsAs old new e
 
 -- the run of an image on a script's words is handed back

@@ -5,6 +5,7 @@ pub mod Files
 pub mod Said
 pub mod RunCommand
 pub mod PlainCommand
+pub mod MakeCommand
 pub mod ScriptCommand
 pub mod Unready
 pub mod Ending

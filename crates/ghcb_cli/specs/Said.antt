@@ -1,15 +1,18 @@
 -- What the program is to say: a function of its words and its files.
-use Rattle.std.specs.Prelude.{◌≡◌, ℕ, Bool, false, if◌then◌else◌, List, Option, Some, None, Result, Ok, Err, IfSome, option_map, option_and_then}
+use Rattle.std.specs.Prelude.{◌≡◌, ℕ, Bool, false, if◌then◌else◌, List, [], Option, Some, None, Result, Ok, Err, IfSome, length, option_map, option_and_then}
 use Rattle.image_file.specs.Image.{Contents}
+use Rattle.image_file.specs.Made.{made_contents}
 use Rattle.hostile_host.specs.Answered.{run_on_words}
 use Rattle.trace_text.specs.Trace.{trace_text}
 use Rattle.plain_machine.specs.Plain.{rounds_machine, rounds_order, steps_of, ends_of}
 use Rattle.report_text.specs.Report.{report_text}
+use Rattle.report_text.specs.Summary.{summary_text}
 use Rattle.ghcb_cli.specs.declared.command.Command.{Command}
-use Rattle.ghcb_cli.specs.declared.command.Command.TheVariants.{Run, Plain, Hostile, ShowPage, ShowMsr, ShowInfo}
+use Rattle.ghcb_cli.specs.declared.command.Command.TheVariants.{Run, Plain, Hostile, ShowPage, ShowMsr, ShowInfo, Make}
 use Rattle.ghcb_cli.specs.declared.text.Refused.{Refused}
 use Rattle.ghcb_cli.specs.Command.{command_of, reading_by, command_word}
 use Rattle.ghcb_cli.specs.Files.{Folder, Parts, run_parts, script_parts}
+use Rattle.ghcb_cli.specs.MakeCommand.{make_steps}
 use Rattle.ghcb_cli.specs.Text.{usage, line_of}
 
 -- its status, the refusal, and the whole text
@@ -36,6 +39,13 @@ abbrev pub report_of : Contents → ℕ → List ℕ → List ℕ
 report_of image steps input =
     let stops = (rounds_machine image steps input).stops in
     report_text (output_of image steps input) (rounds_order image steps input) (ends_of stops) (steps_of stops)
+
+-- the summary of the plain machine's values in the order of rounds, on the image that a number makes
+abbrev pub summary_of : ℕ → List ℕ
+summary_of number =
+    let image = made_contents number in
+    let turns = length (rounds_order image make_steps []) in
+    summary_text number (length image.code) turns (output_of image make_steps [])
 
 -- the trace and the end of the run on a script's words
 abbrev pub answered_text : Contents → ℕ → List ℕ → List ℕ
@@ -73,6 +83,7 @@ said_by image second digits (Some (Hostile steps)) = said_of_files (answering st
 said_by image second digits (Some ShowPage) = option_map (λ text. says_output text) (reading_by digits (Some ShowPage))
 said_by image second digits (Some (ShowMsr word)) = option_map (λ text. says_output text) (reading_by digits (Some (ShowMsr word)))
 said_by image second digits (Some (ShowInfo word)) = option_map (λ text. says_output text) (reading_by digits (Some (ShowInfo word)))
+said_by image second digits (Some (Make number)) = Some (says_output (summary_of number))
 said_by image second digits None = Some says_usage
 
 -- a command makes its text of two files in this way, and is no reading
@@ -81,7 +92,7 @@ pub record IsMadeBy (c : Command) (m : Making) : Type 0 where
   pub unread : (digits : List ℕ) → reading_by digits (Some c) ≡ None
 
 -- What the program is to say: of a run the words first, then the image's limit and form, then the limit and form of the input or
--- the script, then the text of the run; of a reading its text. There is none where a file that is read is absent.
+-- the script, then the text of the run; of a reading its text, and of a made image its summary. There is none where a file that is read is absent.
 abbrev pub said : Folder → List (List ℕ) → Option Said
 said folder words = said_by (folder (command_word words 1)) (folder (command_word words 2)) (command_word words 2) (command_of words)
 

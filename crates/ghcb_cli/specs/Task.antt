@@ -15,6 +15,7 @@ command_in (task.Hostile image script steps) = command.Hostile steps
 command_in (task.ShowPage page) = command.ShowPage
 command_in (task.ShowMsr word) = command.ShowMsr word
 command_in (task.ShowInfo word) = command.ShowInfo word
+command_in (task.Make number) = command.Make number
 
 -- it has what the second and the third word hold
 abbrev pub HasWords : List ℕ → List ℕ → Task → Type 0
@@ -24,6 +25,7 @@ HasWords first second (task.Hostile image script steps) = (image.now ≡ first) 
 HasWords first second (task.ShowPage page) = page_of_digits second ≡ Some page
 HasWords first second (task.ShowMsr word) = Unit {0}
 HasWords first second (task.ShowInfo word) = Unit {0}
+HasWords first second (task.Make number) = Unit {0}
 
 -- a run has no more steps than the grammar allows
 abbrev pub IsWithin : Task → Type 0

@@ -1,5 +1,5 @@
 // The words of the program.
-ghost use Rattle.std.specs.Prelude.{◌≡◌, ◌≤◌, true, map, nat_le, if◌then◌else◌, Some, None, IfSome, option_map};
+ghost use Rattle.std.specs.Prelude.{◌≡◌, ◌≤◌, ℕ, List, true, map, nat_le, if◌then◌else◌, Some, None, IfSome, option_map};
 ghost use Rattle.std.specs.Char.{is_ascii_digit};
 ghost use Rattle.std.specs.List.{list_all};
 ghost use Rattle.std.specs.String.{string_bytes};
@@ -24,6 +24,8 @@ pub enum Command {
     ShowMsr(u64),
     /// Reads SW_EXITINFO1 of port I/O.
     ShowInfo(u64),
+    /// Runs the image that a number makes over the host.
+    Make(u16),
 }
 
 /// A command with the names that its words hold, and with the page whose digits they are.
@@ -48,6 +50,7 @@ pub enum Task<'a> {
     ShowPage(Words),
     ShowMsr(u64),
     ShowInfo(u64),
+    Make(u16),
 }
 
 /// The most steps that a run over the host or of the plain machine can be given.
@@ -55,6 +58,9 @@ const MOST_STEPS: u64 = 2_097_152;
 
 /// The most steps that a run on a script can be given.
 const MOST_HOSTILE_STEPS: u64 = 65_536;
+
+/// The greatest number of which an image is made.
+const MOST_NUMBER: u64 = 65_535;
 
 /// Whether all bytes are digits.
 fn all_digits(text: &[u8]) -> bool
@@ -224,6 +230,21 @@ fn report_by<'a>(
     }
 }
 
+/// A made image by its two words.
+fn make_by<'a>(name: &str, number: &[u8]) -> Option<Task<'a>>
+    ensures command { option_map command_in result ≡ Rattle.ghcb_cli.specs.Command.make_by name.now number.now }
+    ensures words { (first second : List ℕ) → IfSome result (λ task. HasWords first second task) }
+    ensures within { IfSome result IsWithin }
+{
+    if name != "make" {
+        return None;
+    }
+    match decimal(number, 0, MOST_NUMBER) {
+        Some(number) => Some(Task::Make(number as u16)),
+        None => None,
+    }
+}
+
 /// What the words of `ghcb_run` ask for; none exactly where they are none of its grammar.
 pub fn task_in(words: &[String]) -> Option<Task<'_>>
     ensures command { option_map command_in result ≡ command_of (map string_bytes words.now) }
@@ -246,6 +267,7 @@ pub fn task_in(words: &[String]) -> Option<Task<'_>>
             steps.as_bytes(),
         ),
         [name, kind, digits] => show_by(name.as_str(), kind.as_str(), digits.as_str()),
+        [name, number] => make_by(name.as_str(), number.as_bytes()),
         _ => None,
     }
 }
@@ -261,6 +283,7 @@ pub fn parse(words: &[String]) -> Option<Command>
         Some(Task::ShowPage(_)) => Some(Command::ShowPage),
         Some(Task::ShowMsr(word)) => Some(Command::ShowMsr(word)),
         Some(Task::ShowInfo(word)) => Some(Command::ShowInfo(word)),
+        Some(Task::Make(number)) => Some(Command::Make(number)),
         None => None,
     }
 }

@@ -21,6 +21,7 @@ use std::alloc::Global;
 pub enum Ending {
     Done(Finished),
     Plain(Finished),
+    Made(Finished),
     Answered { finished: Finished, heard: Vec<u64> },
     Usage,
     Shown,

@@ -1,6 +1,6 @@
 //! The program `ghcb_run`: `run` takes an image and an input over a host and writes the console or a report,
-//! `plain` takes them with the devices alone, `hostile` takes an image on the words of a script, and `show` reads
-//! a page, an MSR word or an exit info. What it prints and its status follow from its words and files.
+//! `plain` takes them with the devices alone, `hostile` takes an image on the words of a script, `show` reads
+//! a page, an MSR word or an exit info, and `make` runs a large image that a number makes over a host. What it prints and its status follow from its words and files.
 #![tactic(auto)]
 
 mod command;
@@ -9,6 +9,9 @@ mod files;
 #[cfg(test)]
 mod fixture;
 mod host_run;
+mod make_run;
+#[cfg(test)]
+mod make_tests;
 #[cfg(test)]
 mod mmio_tests;
 mod plain_run;

@@ -327,3 +327,19 @@ fn a_run_of_eight_vcpus_is_reported(rt: HostRuntime) -> Result<(), Fail> {
     assert!(rt; reports(&rt, alloc, "1000", &mut files, &report)?);
     Ok(())
 }
+
+/// A jump to itself.
+const FOREVER: [u8; 2] = [0xEB, 0xFE];
+
+#[test]
+fn eight_vcpus_that_ask_for_nothing_leave_no_turns(rt: HostRuntime) -> Result<(), Fail> {
+    let mut files = folder(rt.alloc(), 8, &FOREVER, &[], b"")?;
+    let wanted = Wanted {
+        text: b"",
+        order: &[],
+        steps: &[200_000; 8],
+        ends: &[End::Spent; 8],
+    };
+    assert!(rt; both_leave(&rt, rt.alloc(), "200000", &mut files, &wanted)?);
+    Ok(())
+}

@@ -1,21 +1,23 @@
 // The top call.
-ghost use Rattle.std.specs.Prelude.{◌≡◌, ◌≤◌, ◌⊎◌, IfSome, IsSomeAnd, Some, None, [], List, ℕ, Bool, true, length, map};
+ghost use Rattle.std.specs.Prelude.{◌≡◌, ◌≤◌, ◌⊎◌, IfSome, IsSomeAnd, Some, None, [], List, ℕ, Bool, false, true, length, map};
 ghost use Rattle.std.specs.String.{string_bytes};
 ghost use Rattle.host_events.specs.Hosting.{IsTelling};
 ghost use Rattle.run_io.specs.Outside.{Rose, Puts, HasSpace, wrote};
-ghost use Rattle.ghcb_cli.specs.Command.{command_of, reading_of};
+ghost use Rattle.ghcb_cli.specs.Command.{calls_host, command_of, reading_of};
+ghost use Rattle.ghcb_cli.specs.MakeCommand.{RunsMade};
 ghost use Rattle.ghcb_cli.specs.PlainCommand.{RunsPlain};
 ghost use Rattle.ghcb_cli.specs.RunCommand.{RunsFiles};
 ghost use Rattle.ghcb_cli.specs.ScriptCommand.{RunsScript};
 ghost use Rattle.ghcb_cli.specs.Said.{Said, said, IsToEnd};
 ghost use Rattle.ghcb_cli.specs.Ending.{EndsAs, PutsAs, Uses, Refuses, FailsRead, FailsWrite, IsKnown, IsStatus, IsWithoutRun, finished_of, told};
-ghost use Rattle.ghcb_cli.specs.declared.command.Command.TheVariants.{Run, Plain, Hostile};
+ghost use Rattle.ghcb_cli.specs.declared.command.Command.TheVariants.{Run, Plain, Hostile, Make};
 ghost use Rattle.ghcb_cli.specs.declared.commands.Ending.TheVariants as ending;
 ghost use Rattle.ghcb_cli.specs.Text.{usage as usage_text};
 
 use crate::command::{Task, task_in};
 use crate::commands::{Ending, on_files, put};
 use crate::host_run::OverHost;
+use crate::make_run::run_made;
 use crate::plain_run::OverDevices;
 use crate::script_run::OnScript;
 use crate::text::{Refused, usage};
@@ -85,6 +87,7 @@ fn ending_of<F: Files, S: Sink, H: Host>(
         Some(Task::ShowPage(page)) => put(out, page_text(&page).as_bytes(), Ending::Shown),
         Some(Task::ShowMsr(word)) => put(out, msr_text(word).as_bytes(), Ending::Shown),
         Some(Task::ShowInfo(word)) => put(out, info_text(word).as_bytes(), Ending::Shown),
+        Some(Task::Make(number)) => run_made(alloc, number, out, host),
     }
 }
 
@@ -142,11 +145,12 @@ impl Done {
 /// console, and with `report` behind these words the run's report in its place; `plain IMAGE INPUT STEPS`
 /// runs it with the devices alone, with no host and no page, and writes the console; `hostile IMAGE SCRIPT
 /// STEPS` runs vCPU 0 of the image on the words of the script and writes each item that it made on the page,
-/// and its end; `show page HEX`, `show msr HEX` and `show info HEX` write what the digits mean.
+/// and its end; `show page HEX`, `show msr HEX` and `show info HEX` write what the digits mean; `make N` runs
+/// the image that the number makes over the host and no input, and writes a summary of the run.
 ///
 /// | Status | Comes |
 /// |---|---|
-/// | 0 | where the run's whole output or report or the whole reading was written |
+/// | 0 | where the run's whole output, report or summary or the whole reading was written |
 /// | 2 | where the words are none of the grammar, and the usage line was written |
 /// | 3 | where a file breaks a limit or a rule; the first of them is `refused`, and its line was written |
 /// | 4 | only where a read failed; nothing was written |
@@ -171,15 +175,17 @@ pub fn ghcb_main<R: Threads + Sync, F: Files, S: Sink, H: Host>(
     ensures plain { (steps : ℕ) → command_of (map string_bytes words.now) ≡ Some (Plain steps) → result.status ≡ 0
         → RunsPlain (F.told files.old).folder (map string_bytes words.now)
         (finished_of result) (S.told out.old).written (S.told out.new).written }
+    // The run of the image that a number makes: the same over the host as `ran`, with the summary written.
+    ensures made { (number : ℕ) → command_of (map string_bytes words.now) ≡ Some (Make number) → result.status ≡ 0
+        → IsTelling (H.told host.old) → RunsMade (map string_bytes words.now)
+        (finished_of result) (H.told host.new) (S.told out.old).written (S.told out.new).written }
     // The run on a script's words: its trace and its end were written, and the words that came, the steps and
     // the end are handed back.
     ensures answered { (steps : ℕ) → command_of (map string_bytes words.now) ≡ Some (Hostile steps) → result.status ≡ 0
         → RunsScript (F.told files.old).folder (map string_bytes words.now)
         (finished_of result) result.told.items (S.told out.old).written (S.told out.new).written }
-    // The host is called for a run over it alone.
-    ensures uncalled { ((steps : ℕ) (report : Bool)
-        → command_of (map string_bytes words.now) ≡ Some (Run steps report) → ⊥)
-        → H.told host.new ≡ H.told host.old }
+    // The host is called for a run over it alone, of an image that is read or made.
+    ensures uncalled { calls_host (command_of (map string_bytes words.now)) ≡ false → H.told host.new ≡ H.told host.old }
     // A reading is shown, or a write of it failed: no memory is wanted.
     ensures shown { (text : List ℕ) → reading_of (map string_bytes words.now) ≡ Some text
         → ((result.status ≡ 0) × ((S.told out.new).written ≡ wrote (S.told out.old).written text) × IsWithoutRun result)
@@ -218,6 +224,7 @@ pub fn ghcb_main<R: Threads + Sync, F: Files, S: Sink, H: Host>(
     match ending_of(alloc, words, files, out, host) {
         Ending::Done(finished) => Done::with_run(finished, Vec::new(alloc)),
         Ending::Plain(finished) => Done::with_run(finished, Vec::new(alloc)),
+        Ending::Made(finished) => Done::with_run(finished, Vec::new(alloc)),
         Ending::Answered { finished, heard } => Done::with_run(finished, heard),
         Ending::Usage => Done::without_run(alloc, 2, None),
         Ending::Shown => Done::without_run(alloc, 0, None),

@@ -1,4 +1,4 @@
-use crate::report_text;
+use crate::{report_text, summary_text};
 use event_table::{End, Finished, Turn};
 use std::test::Fail;
 
@@ -44,4 +44,13 @@ fn a_report_of_nothing(rt: HostRuntime) -> Result<(), Fail> {
         b"console 0\n\nturns 0\nvcpu 0 undecoded steps 0\n".as_slice()
     );
     Ok(())
+}
+
+#[test]
+fn a_summary_in_print(rt: HostRuntime) {
+    let text = summary_text(7, 20_000, 4_000, b"\xFF\xFFA");
+    assert!(rt;
+        text.is_some_and(|text| text.as_bytes()
+            == b"make 7 code 20000 turns 4000 console 3 sum 575\n".as_slice())
+    );
 }

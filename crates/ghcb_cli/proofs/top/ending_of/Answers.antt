@@ -3,7 +3,7 @@ use Rattle.std.specs.Prelude.{option_map}
 use Rattle.std.specs.String.{string_bytes}
 use Rattle.page_words.specs.Told.{Kept}
 use Rattle.show_text.specs.Page.{page_text}
-use Rattle.ghcb_cli.specs.declared.command.Command.TheVariants.{Hostile, ShowPage, ShowMsr, ShowInfo}
+use Rattle.ghcb_cli.specs.declared.command.Command.TheVariants.{Hostile, ShowPage, ShowMsr, ShowInfo, Make}
 use Rattle.ghcb_cli.specs.declared.command.Task.{Task}
 use Rattle.ghcb_cli.specs.declared.command.Task.TheVariants as task
 use Rattle.ghcb_cli.specs.declared.commands.Ending.TheVariants as ending
@@ -11,7 +11,7 @@ use Rattle.ghcb_cli.specs.Command.{command_of, command_word}
 use Rattle.ghcb_cli.specs.Ending.{PutsAs}
 use Rattle.ghcb_cli.specs.Task.{HasWords}
 use Rattle.ghcb_cli.proofs.Answering.{reading_is}
-use Rattle.ghcb_cli.proofs.Endings.{usage_ends, shown_ends}
+use Rattle.ghcb_cli.proofs.Endings.{usage_ends, shown_ends, made_ends}
 use Rattle.ghcb_cli.proofs.top.ending_of.Goals as goal
 
 pub returns-in-None-clause-ends : goal.returns-in-None-clause-ends
@@ -51,3 +51,9 @@ returns-in-Some-ShowInfo-clause-ends g c =
     let command : command_of words ≡ Some (ShowInfo c.in-Some-ShowInfo.word) = search rules in
     let is = c.as_bytes-in-Some-ShowInfo.ensures.value ∙ c.info_text.ensures.text in
     shown_ends words _ _ _ _ (reading_is words _ _ command (ap Some (sym is))) refl refl c.put-in-Some-ShowInfo.ensures.ends
+
+pub returns-in-Some-Make-clause-ends : goal.returns-in-Some-Make-clause-ends
+returns-in-Some-Make-clause-ends g c =
+    let words = map string_bytes c.args.words.now in
+    let command : command_of words ≡ Some (Make c.in-Some-Make.number) = search rules in
+    made_ends words c.in-Some-Make.number _ _ _ command refl c.run_made.ensures.ends
