@@ -1,0 +1,11 @@
+pub mod Sums
+pub mod Changing
+pub mod Taking
+pub mod Counting
+pub mod Giving
+pub mod Meeting
+pub mod Sharing
+pub mod Closing
+pub mod Serving
+pub mod Turning
+pub mod Parts
