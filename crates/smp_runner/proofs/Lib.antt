@@ -1,0 +1,5 @@
+pub mod Coming
+pub mod Working
+pub mod Running
+pub mod Gathering
+pub mod Closing

@@ -1,0 +1,4 @@
+pub mod Working
+pub mod Standing
+pub mod Jobs
+pub mod Ran
