@@ -30,19 +30,19 @@ refusal_with m (Some bytes) r i (inr second) =
     ap (λ (x : Result Contents Refused). said_with m (Some bytes) x) second.1
     ∙ ap (λ (x : Result (List ℕ) Refused). Some (said_over m second.0 x)) (same_Some _ _ second.2)
 
-refusal_said : (m : Making) (i j : Option (List ℕ)) (r : Refused) → IsFirstRefusal r (option_map m.parts.image i) (option_map m.parts.second j) → said_of_files m i j ≡ Some (says_refused r)
+pub refusal_said : (m : Making) (i j : Option (List ℕ)) (r : Refused) → IsFirstRefusal r (option_map m.parts.image i) (option_map m.parts.second j) → said_of_files m i j ≡ Some (says_refused r)
 refusal_said m None j r (inl first) = let wrong : None ≡ Some (Err r) = first in cc
 refusal_said m None j r (inr second) = let wrong : None ≡ Some (Ok second.0) = second.1 in cc
 refusal_said m (Some bytes) j r (inl first) = refusal_with m j r (m.parts.image bytes) (inl (same_Some _ _ first))
 refusal_said m (Some bytes) j r (inr second) = refusal_with m j r (m.parts.image bytes) (inr (second.0, same_Some _ _ second.1, second.2))
 
-absent_said : (m : Making) (i j : Option (List ℕ)) → IsAbsent (option_map m.parts.image i) (option_map m.parts.second j) → said_of_files m i j ≡ None
+pub absent_said : (m : Making) (i j : Option (List ℕ)) → IsAbsent (option_map m.parts.image i) (option_map m.parts.second j) → said_of_files m i j ≡ None
 absent_said m None j absent = refl
 absent_said m (Some bytes) j (inl none) = let wrong : Some (m.parts.image bytes) ≡ None = none in cc
 absent_said m (Some bytes) None (inr second) = ap (λ (x : Result Contents Refused). said_with m None x) (same_Some _ _ second.1)
 absent_said m (Some bytes) (Some more) (inr second) = let wrong : Some (m.parts.second more) ≡ None = second.2 in cc
 
-output_said : (m : Making) (i j : Option (List ℕ)) (image : Contents) (second : List ℕ) →
+pub output_said : (m : Making) (i j : Option (List ℕ)) (image : Contents) (second : List ℕ) →
     option_map m.parts.image i ≡ Some (Ok image) → option_map m.parts.second j ≡ Some (Ok second) → said_of_files m i j ≡ Some (says_output (m.text image second))
 output_said m None j image second first other = let wrong : None ≡ Some (Ok image) = first in cc
 output_said m (Some bytes) None image second first other = let wrong : None ≡ Some (Ok second) = other in cc

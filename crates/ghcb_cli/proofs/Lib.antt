@@ -4,3 +4,4 @@ pub mod Outputs
 pub mod Answering
 pub mod Endings
 pub mod Grammar
+pub mod SmpEndings

@@ -9,3 +9,5 @@ pub mod MakeCommand
 pub mod ScriptCommand
 pub mod Unready
 pub mod Ending
+pub mod SmpCommand
+pub mod SmpEnding

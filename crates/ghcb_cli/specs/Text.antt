@@ -1,4 +1,4 @@
--- The program's texts.
+-- The programs' texts.
 use Rattle.std.specs.Prelude.{ℕ, List, ◌++◌, codes}
 use Rattle.show_text.specs.Number.{labelled, line_end}
 use Rattle.image_file.specs.Fault.{fault_number}
@@ -7,6 +7,9 @@ use Rattle.ghcb_cli.specs.declared.text.Refused.TheVariants.{ImageLimit, Image, 
 
 abbrev pub usage : List ℕ
 usage = codes "usage: ghcb_run run|plain|hostile|live|secret|show|make\n"
+
+abbrev pub smp_usage : List ℕ
+smp_usage = codes "usage: ghcb_smp IMAGE INPUT STEPS\n"
 
 -- what is refused: a limit, an image by the number of its first broken rule, or a script by the number of its first bad line
 abbrev pub what_of : Refused → List ℕ

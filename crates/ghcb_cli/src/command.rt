@@ -54,7 +54,7 @@ pub enum Task<'a> {
 }
 
 /// The most steps that a run over the host or of the plain machine can be given.
-const MOST_STEPS: u64 = 2_097_152;
+pub const MOST_STEPS: u64 = 2_097_152;
 
 /// The most steps that a run on a script can be given.
 const MOST_HOSTILE_STEPS: u64 = 65_536;
@@ -105,7 +105,7 @@ fn value_up_to(text: &[u8], most: u64) -> Option<u64>
 }
 
 /// The number that a text writes, where it has no leading zero and is from `least` to `most`.
-fn decimal(text: &[u8], least: u64, most: u64) -> Option<u64>
+pub fn decimal(text: &[u8], least: u64, most: u64) -> Option<u64>
     ensures number { result ≡ decimal_of least most text.now }
     ensures within { IfSome result (λ n. n ≤ most) }
 {

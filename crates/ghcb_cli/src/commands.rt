@@ -108,7 +108,7 @@ pub trait OnFiles {
 }
 
 /// What is in the files of these names, or why they can't be run.
-fn read_both<C: OnFiles, F: Files>(
+pub fn read_both<C: OnFiles, F: Files>(
     alloc: Global,
     command: &C,
     image: &str,

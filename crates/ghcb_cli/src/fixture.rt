@@ -95,7 +95,7 @@ pub fn words_of(alloc: Global, words: &[&str]) -> Result<Vec<String>, Fail> {
 }
 
 /// The turns that a hypervisor keeps.
-fn turns_of(alloc: Global, host: &Hypervisor) -> Result<Vec<Turn>, Fail> {
+pub fn turns_of(alloc: Global, host: &Hypervisor) -> Result<Vec<Turn>, Fail> {
     let mut turns = Vec::new(alloc);
     for number in 0..host.turns() {
         if let Some(turn) = host.turn_at(number) {

@@ -10,7 +10,7 @@ use std::test::Fail;
 use std::thread::Threads;
 
 /// A folder with the file `image` of so many vCPUs with this code, and data behind it, and the file `input`.
-fn folder(
+pub fn folder(
     alloc: Global,
     vcpus: u8,
     code: &[u8],
@@ -101,7 +101,7 @@ fn reports<R: Threads + Sync>(
 }
 
 /// MOV EDX, 3F8h; MOV AL, 48h; OUT DX, AL; HLT.
-const HELLO: [u8; 9] = [0xBA, 0xF8, 3, 0, 0, 0xB0, 0x48, 0xEE, 0xF4];
+pub const HELLO: [u8; 9] = [0xBA, 0xF8, 3, 0, 0, 0xB0, 0x48, 0xEE, 0xF4];
 
 /// MOV ESI, 12h; MOV ECX, 2033; MOV EDX, 3F8h; REP OUTSB; HLT.
 const LONG_STRING: [u8; 18] = [
@@ -178,7 +178,7 @@ fn input_goes_out_again_with_the_devices_alone(rt: HostRuntime) -> Result<(), Fa
 }
 
 /// Two vCPUs put out a letter each, pass it on through a mailbox, and put out the other's and their number's.
-const LETTERS: [u8; 45] = [
+pub const LETTERS: [u8; 45] = [
     0x8D, 0x47, 0x41, 0x31, 0xD2, 0xB9, 0, 0x10, 0, 0x40, 0x0F, 0x30, 0xBA, 0xF8, 3, 0, 0, 0xEE,
     0x8D, 0x14, 0xBD, 0, 5, 0, 0, 0xEF, 0x83, 0xF2, 4, 0xED, 0xBA, 0xF8, 3, 0, 0, 0xEE, 0x0F, 0x32,
     0xBA, 0xF8, 3, 0, 0, 0xEE, 0xF4,

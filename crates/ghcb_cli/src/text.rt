@@ -1,6 +1,6 @@
 // The program's texts.
 ghost use Rattle.std.specs.Prelude.{◌≡◌};
-ghost use Rattle.ghcb_cli.specs.Text.{usage as usage_text, line_of};
+ghost use Rattle.ghcb_cli.specs.Text.{usage as usage_text, smp_usage as smp_usage_text, line_of};
 
 use image_file::ImageFault;
 use show_text::Text;
@@ -25,6 +25,13 @@ pub fn usage() -> &'static [u8]
     ensures text { result.now ≡ usage_text }
 {
     b"usage: ghcb_run run|plain|hostile|live|secret|show|make\n"
+}
+
+/// The usage line of `ghcb_smp`.
+pub fn smp_usage() -> &'static [u8]
+    ensures text { result.now ≡ smp_usage_text }
+{
+    b"usage: ghcb_smp IMAGE INPUT STEPS\n"
 }
 
 impl Refused {

@@ -106,7 +106,7 @@ pub struct Done {
 
 impl Done {
     /// A call with a run.
-    fn with_run(finished: Finished, told: Vec<u64>) -> Done
+    pub fn with_run(finished: Finished, told: Vec<u64>) -> Done
         ensures status { result.status ≡ 0 }
         ensures refused { result.refused ≡ None }
         ensures finished { finished_of result ≡ finished }
@@ -124,7 +124,7 @@ impl Done {
     }
 
     /// A call without a run.
-    fn without_run(alloc: Global, status: u8, refused: Option<Refused>) -> Done
+    pub fn without_run(alloc: Global, status: u8, refused: Option<Refused>) -> Done
         ensures status { result.status ≡ status }
         ensures refused { result.refused ≡ refused }
         ensures lists { IsWithoutRun result }
