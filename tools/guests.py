@@ -6,6 +6,8 @@ HOSTILE = EXAMPLES / "hostile"
 NO_INPUT = EXAMPLES / "hello/empty"
 STEPS = 2097152
 HOSTILE_STEPS = 65536
+# The guests of several vCPUs that print the same in whichever order these come to the devices.
+ANY_ORDER = ("chorus",)
 
 
 def folders():
@@ -16,6 +18,11 @@ def folders():
 
 def image(folder):
     return folder / f"{folder.name}.img"
+
+
+def vcpus(folder):
+    """The number of vCPUs in the image's header."""
+    return int.from_bytes(image(folder).read_bytes()[8:10], "little")
 
 
 def words(folder):
@@ -39,3 +46,9 @@ def runs(folder):
     yield ("plain", *rest), folder / "stdout"
     if (folder / "report").exists():
         yield (run, *rest, "report"), folder / "report"
+
+
+def smp_runs(folder):
+    """The words of `ghcb_smp` that run the example, and the file that has what it is to print: where no order matters."""
+    if folder.parent != HOSTILE and (vcpus(folder) == 1 or folder.name in ANY_ORDER):
+        yield words(folder)[1:], folder / "stdout"

@@ -1,7 +1,7 @@
 """Programs that are compared, and how: a program of this repository, and an independent model of it.
 
-GHCB_RUN names `ghcb_run`, else it is the one that `rt` builds; GHCB_MODEL names the model. Where one is missing,
-the script that asks for it says that it is skipped, and ends with status 0.
+GHCB_RUN and GHCB_SMP name `ghcb_run` and `ghcb_smp`, else they are those that `rt` builds; GHCB_MODEL names the model.
+Where one is missing, the script that asks for it says that it is skipped, and ends with status 0.
 """
 import os
 import shlex
@@ -21,6 +21,7 @@ SCRIPT = Path(sys.argv[0]).name
 # reports, and images from a number.
 MODEL_VARIABLES = {"ORACLE_STAGE": "9"}
 MODEL_WORDS = ("--proto", "1")
+VARIABLES = {"ghcb_run": "GHCB_RUN", "ghcb_smp": "GHCB_SMP"}
 SECONDS = 300
 WORKERS = 2
 MOST_DIFFERENCES = 5
@@ -71,15 +72,15 @@ def is_program(path):
 
 
 def path_of(crate):
-    """The program of a crate, as `rt run` builds it there; `ghcb_run` may be another by GHCB_RUN."""
-    other = os.environ.get("GHCB_RUN") if crate == "ghcb_run" else None
+    """The program of a crate, as `rt run` builds it there, or another that its variable names."""
+    other = os.environ.get(VARIABLES.get(crate, ""))
     return Path(other).absolute() if other else TOP / f"crates/{crate}/out/{crate}"
 
 
 def program(crate="ghcb_run"):
     path = path_of(crate)
     if not is_program(path):
-        named = ", or GHCB_RUN names another" if crate == "ghcb_run" else ""
+        named = f", or {VARIABLES[crate]} names another" if crate in VARIABLES else ""
         skip(f"{path} is no program; rt run in crates/{crate} builds it{named}")
     return Program(path, {}, ())
 
