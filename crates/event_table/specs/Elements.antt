@@ -72,14 +72,15 @@ abbrev pub elements : Insn → Setting → ℕ → ℕ → List Place
 elements i s at left = movable (is_input i.op) (element_width i) s (min left (2032 / size_of (element_width i))) at
 
 -- The plan at the next element, where one is left that can be moved: at its address, and with so many left. None is
--- left where REP finds RCX 0.
+-- left where REP finds RCX 0, and then its pointer isn't looked at.
 abbrev pub at_element : Insn → Setting → (ℕ → ℕ → Plan) → Plan
 at_element i s plan =
-    Looks Address (string_places i) (λ seen.
-    if number seen 1 == 0 then goes (onward s)
-    else if can_move (is_input i.op) s (Bytes (number seen 0) (element_width i))
-    then plan (number seen 0) (number seen 1)
-    else Ends (BadAddress (number seen 0)))
+    Looks Address (counter i.rep ∷ []) (λ count.
+    if number count 0 == 0 then goes (onward s)
+    else Looks Address (Low (pointer (is_input i.op)) B64 ∷ []) (λ seen.
+    if can_move (is_input i.op) s (Bytes (number seen 0) (element_width i))
+    then plan (number seen 0) (number count 0)
+    else Ends (BadAddress (number seen 0))))
 
 -- One element is placed: RAM for input, its pointer, RCX with REP, and RIP goes on with the last.
 abbrev pub element : Insn → Setting → ℕ → ℕ → ℕ → Change

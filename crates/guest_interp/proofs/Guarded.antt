@@ -149,9 +149,9 @@ spares_counter code true = tt
 spares_counter code false = tt
 
 guards_element : (i : Insn) (s : Setting) → Guards s.code (element_of i s)
-guards_element i s = λ seen.
-    guards_if s.code (number seen 1 == 0) _ _ (λ _. (tt, tt, tt))
-    (guards_if s.code (can_move (is_input i.op) s (Bytes (number seen 0) (element_width i))) _ _
+guards_element i s = λ count.
+    guards_if s.code (number count 0 == 0) _ _ (λ _. (tt, tt, tt)) (λ seen.
+    guards_if s.code (can_move (is_input i.op) s (Bytes (number seen 0) (element_width i))) _ _
     (λ can shown reply. (tt, (spares_element (is_input i.op) s (Bytes (number seen 0) (element_width i)) can, (tt, (spares_counter s.code i.rep, tt))), tt)) tt)
 
 -- as many elements as can be moved
@@ -171,10 +171,10 @@ guards_taken i s (suc most) at left bytes =
     (guards_taken i s most (next_address s.df (size_of (element_width i)) at) (left - 1) (drop (size_of (element_width i)) bytes))
 
 guards_block : (i : Insn) (s : Setting) → Guards s.code (block_of i s)
-guards_block i s = λ seen.
-    guards_if s.code (number seen 1 == 0) _ _ (λ _. (tt, tt, tt))
-    (guards_if s.code (can_move (is_input i.op) s (Bytes (number seen 0) (element_width i))) _ _
-    (λ can shown reply. guards_taken i s (min (number seen 1) (2032 / size_of (element_width i))) (number seen 0) (number seen 1) reply.bytes) tt)
+guards_block i s = λ count.
+    guards_if s.code (number count 0 == 0) _ _ (λ _. (tt, tt, tt)) (λ seen.
+    guards_if s.code (can_move (is_input i.op) s (Bytes (number seen 0) (element_width i))) _ _
+    (λ can shown reply. guards_taken i s (min (number count 0) (2032 / size_of (element_width i))) (number seen 0) (number count 0) reply.bytes) tt)
 
 -- a destination of a move from the page can be written
 spares_from : (s : Setting) (dst src : Place) → is_from_page s dst src ≡ true → Spares s.code dst

@@ -23,15 +23,15 @@ use Rattle.string_io.proofs.Whole.{block_says, placed_takes}
 use Rattle.guest_interp.proofs.Going.{dst_of, src_of}
 
 -- a string instruction asks a block
-tests_many : (none can : Bool) (v : Vcpu) (p q r : Plan) (b : Block) (access : Access) → event_asked v p ≡ None → event_asked v q ≡ Some (Many b) → event_asked v r ≡ None
-    → event_asked v (if none then p else if can then q else r) ≡ Some (One access) → ⊥
-tests_many true can v p q r b access never many other one = absurd (cc)
-tests_many false true v p q r b access never many other one = absurd (cc)
-tests_many false false v p q r b access never many other one = absurd (cc)
+none_one : (t : Bool) (v : Vcpu) (p q : Plan) (access : Access) → (event_asked v p ≡ Some (One access) → ⊥) → (event_asked v q ≡ Some (One access) → ⊥)
+    → event_asked v (if t then p else q) ≡ Some (One access) → ⊥
+none_one true v p q access one other is = one is
+none_one false v p q access one other is = other is
 
 pub not_one : (i : Insn) (v : Vcpu) (access : Access) → event_asked v (block_of i (setting v i.len)) ≡ Some (One access) → ⊥
 not_one i v access one =
-    tests_many (left_of i.rep v == 0) (can_move (is_input i.op) (setting v i.len) (Bytes (at_of i v) (element_width i))) v _ _ _ _ access refl refl refl one
+    none_one (left_of i.rep v == 0) v _ _ access (λ is. absurd (cc))
+    (none_one (can_move (is_input i.op) (setting v i.len) (Bytes (at_of i v) (element_width i))) v _ _ access (λ is. absurd (cc)) (λ is. absurd (cc))) one
 
 -- one access is answered alike, whether elements are taken alone or together
 registers_alike : (k : Option Kind) (v : Vcpu) (len : ℕ) (reply : Reply) →
