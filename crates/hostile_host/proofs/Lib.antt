@@ -2,3 +2,4 @@ pub mod Going
 pub mod Turning
 pub mod Running
 pub mod Told
+mod Changing

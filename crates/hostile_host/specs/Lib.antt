@@ -1,3 +1,4 @@
 pub mod Answered
 pub mod Turn
 pub mod Told
+pub mod Live
