@@ -1,0 +1,10 @@
+pub mod Answering
+pub mod Bytes
+pub mod Concluding
+pub mod Facts
+pub mod Going
+pub mod Moved
+pub mod Running
+pub mod Same
+pub mod Stepped
+pub mod Taken
