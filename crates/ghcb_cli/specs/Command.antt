@@ -1,10 +1,10 @@
 -- The words of the program.
-use Rattle.std.specs.Prelude.{ℕ, ◌+◌, ◌*◌, ◌-◌, ◌==◌, ◌&&◌, not, nat_le, nat_lt, if◌then◌else◌, Bool, true, false, List, [], ◌∷◌, codes, length, Option, Some, None, option_map, slice_index, slice_index_or}
+use Rattle.std.specs.Prelude.{ℕ, ◌+◌, ◌*◌, ◌-◌, ◌==◌, ◌&&◌, not, nat_le, nat_lt, if◌then◌else◌, Bool, true, false, List, [], ◌∷◌, codes, length, ◌^◌, Option, Some, None, option_map, option_and_then, slice_index, slice_index_or}
 use Rattle.std.specs.Char.{is_ascii_digit}
 use Rattle.std.specs.List.{list_all}
 use Rattle.std.specs.Str.{bytes_eq}
 use Rattle.ghcb_cli.specs.declared.command.Command.{Command}
-use Rattle.ghcb_cli.specs.declared.command.Command.TheVariants.{Run, Plain, Hostile, ShowPage, ShowMsr, ShowInfo, Make}
+use Rattle.ghcb_cli.specs.declared.command.Command.TheVariants.{Run, Plain, Hostile, Live, Secret, ShowPage, ShowMsr, ShowInfo, Make}
 use Rattle.page_words.specs.Told.{Kept}
 use Rattle.show_text.specs.Digits.{word_of_digits, page_of_digits}
 use Rattle.show_text.specs.Info.{info_text}
@@ -28,12 +28,16 @@ abbrev pub decimal_of : ℕ → ℕ → List ℕ → Option ℕ
 decimal_of least most text =
     if are_digits text && not (has_leading_zero text) && nat_le least (value_after 0 text) && nat_le (value_after 0 text) most then Some (value_after 0 text) else None
 
--- the most steps of a run over the host or of the plain machine, and of one against a script
+-- the most steps of a run over the host or of the plain machine, and of one against a script or a page that changes, with labels or without
 abbrev pub most_steps : ℕ
 most_steps = 2097152
 
 abbrev pub most_hostile_steps : ℕ
 most_hostile_steps = 65536
+
+-- the greatest seed by which a page is changed
+abbrev pub most_seed : ℕ
+most_seed = 2 ^ 64 - 1
 
 -- the greatest number of which an image is made
 abbrev pub most_number : ℕ
@@ -52,17 +56,31 @@ plain_command steps = Plain steps
 abbrev pub hostile_command : ℕ → Command
 hostile_command steps = Hostile steps
 
--- a run by its name and its steps
-abbrev pub run_named : List ℕ → List ℕ → Option Command
-run_named name steps =
+abbrev pub secret_command : ℕ → Command
+secret_command steps = Secret steps
+
+abbrev pub live_command : ℕ → ℕ → Command
+live_command seed steps = Live seed steps
+
+-- a run on a page that another thread changes, by its seed and its steps
+abbrev pub live_by : List ℕ → List ℕ → Option Command
+live_by seed steps =
+    option_and_then (λ number. option_map (λ most. live_command number most) (decimal_of 1 most_hostile_steps steps))
+    (decimal_of 0 most_seed seed)
+
+-- a run by its name, the word after its image, and its steps
+abbrev pub run_named : List ℕ → List ℕ → List ℕ → Option Command
+run_named name second steps =
     if bytes_eq name (codes "run") then option_map run_command (decimal_of 1 most_steps steps)
     else if bytes_eq name (codes "plain") then option_map plain_command (decimal_of 1 most_steps steps)
     else if bytes_eq name (codes "hostile") then option_map hostile_command (decimal_of 1 most_hostile_steps steps)
+    else if bytes_eq name (codes "live") then live_by second steps
+    else if bytes_eq name (codes "secret") then option_map secret_command (decimal_of 1 most_hostile_steps steps)
     else None
 
 -- a run by its four words
 abbrev pub run_by : List ℕ → List ℕ → List ℕ → List ℕ → Option Command
-run_by name image second steps = if not (length image == 0) && not (length second == 0) then run_named name steps else None
+run_by name image second steps = if not (length image == 0) && not (length second == 0) then run_named name second steps else None
 
 -- a run with a report by its five words
 abbrev pub report_by : List ℕ → List ℕ → List ℕ → List ℕ → List ℕ → Option Command
@@ -99,9 +117,10 @@ make_command number = Make number
 abbrev pub make_by : List ℕ → List ℕ → Option Command
 make_by name number = if bytes_eq name (codes "make") then option_map make_command (decimal_of 0 most_number number) else None
 
--- The grammar: `run IMAGE INPUT STEPS`, `run IMAGE INPUT STEPS report`, `plain IMAGE INPUT STEPS` and `hostile IMAGE SCRIPT
--- STEPS` with names that aren't empty, and 1 to 65,536 steps of the last one and 1 to 2,097,152 of the others; `show page HEX`,
--- `show msr HEX` and `show info HEX` with the digits of a page or of a word; and `make N` with a number up to 65,535.
+-- The grammar: `run IMAGE INPUT STEPS`, `run IMAGE INPUT STEPS report` and `plain IMAGE INPUT STEPS` with names that aren't empty
+-- and 1 to 2,097,152 steps; `hostile IMAGE SCRIPT STEPS`, `secret IMAGE SCRIPT STEPS` and `live IMAGE SEED STEPS` with 1 to 65,536
+-- steps and a seed below 2^64;
+-- `show page HEX`, `show msr HEX` and `show info HEX` with the digits of a page or of a word; and `make N` with a number up to 65,535.
 abbrev pub command_of : List (List ℕ) → Option Command
 command_of (name ∷ image ∷ second ∷ steps ∷ last ∷ []) = report_by name image second steps last
 command_of (name ∷ image ∷ second ∷ steps ∷ []) = run_by name image second steps
@@ -121,6 +140,8 @@ reading_by digits (Some (ShowInfo word)) = Some (info_text word)
 reading_by digits (Some (Run steps report)) = None
 reading_by digits (Some (Plain steps)) = None
 reading_by digits (Some (Hostile steps)) = None
+reading_by digits (Some (Live seed steps)) = None
+reading_by digits (Some (Secret steps)) = None
 reading_by digits (Some (Make number)) = None
 reading_by digits None = None
 
@@ -133,3 +154,9 @@ abbrev pub calls_host : Option Command → Bool
 calls_host (Some (Run steps report)) = true
 calls_host (Some (Make number)) = true
 calls_host _ = false
+
+-- whether a command hands back the words that came
+abbrev pub hands_back : Option Command → Bool
+hands_back (Some (Hostile steps)) = true
+hands_back (Some (Live seed steps)) = true
+hands_back _ = false

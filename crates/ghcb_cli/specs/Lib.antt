@@ -7,6 +7,8 @@ pub mod RunCommand
 pub mod PlainCommand
 pub mod MakeCommand
 pub mod ScriptCommand
+pub mod SecretCommand
+pub mod LiveCommand
 pub mod Unready
 pub mod Ending
 pub mod SmpCommand

@@ -1,17 +1,19 @@
--- What the program is to say: a function of its words and its files.
+-- What the program is to say: a function of its words, its files and, of a run on a page that another thread changes, the
+-- words that came.
 use Rattle.std.specs.Prelude.{◌≡◌, ℕ, Bool, false, if◌then◌else◌, List, [], Option, Some, None, Result, Ok, Err, IfSome, length, option_map, option_and_then}
 use Rattle.image_file.specs.Image.{Contents}
 use Rattle.image_file.specs.Made.{made_contents}
-use Rattle.hostile_host.specs.Answered.{run_on_words}
-use Rattle.trace_text.specs.Trace.{trace_text}
+use Rattle.answered_runs.specs.Answered.{answered_text}
 use Rattle.plain_machine.specs.Plain.{rounds_machine, rounds_order, steps_of, ends_of}
 use Rattle.report_text.specs.Report.{report_text}
 use Rattle.report_text.specs.Summary.{summary_text}
+use Rattle.secret_labels.specs.Following.{labelled}
+use Rattle.verdict_text.specs.Verdict.{verdict_text}
 use Rattle.ghcb_cli.specs.declared.command.Command.{Command}
-use Rattle.ghcb_cli.specs.declared.command.Command.TheVariants.{Run, Plain, Hostile, ShowPage, ShowMsr, ShowInfo, Make}
+use Rattle.ghcb_cli.specs.declared.command.Command.TheVariants.{Run, Plain, Hostile, Live, Secret, ShowPage, ShowMsr, ShowInfo, Make}
 use Rattle.ghcb_cli.specs.declared.text.Refused.{Refused}
 use Rattle.ghcb_cli.specs.Command.{command_of, reading_by, command_word}
-use Rattle.ghcb_cli.specs.Files.{Folder, Parts, run_parts, script_parts}
+use Rattle.ghcb_cli.specs.Files.{Folder, Parts, run_parts, script_parts, image_in}
 use Rattle.ghcb_cli.specs.MakeCommand.{make_steps}
 use Rattle.ghcb_cli.specs.Text.{usage, line_of}
 
@@ -47,9 +49,9 @@ summary_of number =
     let turns = length (rounds_order image make_steps []) in
     summary_text number (length image.code) turns (output_of image make_steps [])
 
--- the trace and the end of the run on a script's words
-abbrev pub answered_text : Contents → ℕ → List ℕ → List ℕ
-answered_text image steps words = let run = run_on_words image steps words in trace_text run.items run.value.end run.value.cpu.steps
+-- the verdict on an image's secret along the run on a script's words
+abbrev pub judged_text : Contents → ℕ → List ℕ → List ℕ
+judged_text image steps words = verdict_text (labelled image steps words)
 
 -- What a command makes of two files: what is in them, and the text of its run on both.
 pub record Making : Type 0 where
@@ -65,6 +67,9 @@ running report steps = record {
 abbrev pub answering : ℕ → Making
 answering steps = record { parts = script_parts; text = λ image words. answered_text image steps words }
 
+abbrev pub judging : ℕ → Making
+judging steps = record { parts = script_parts; text = λ image words. judged_text image steps words }
+
 abbrev pub said_over : Making → Contents → Result (List ℕ) Refused → Said
 said_over making image (Ok second) = says_output (making.text image second)
 said_over making image (Err refused) = says_refused refused
@@ -76,26 +81,38 @@ said_with making second (Err refused) = Some (says_refused refused)
 abbrev pub said_of_files : Making → Option (List ℕ) → Option (List ℕ) → Option Said
 said_of_files making image second = option_and_then (λ bytes. said_with making second (making.parts.image bytes)) image
 
-abbrev pub said_by : Option (List ℕ) → Option (List ℕ) → List ℕ → Option Command → Option Said
-said_by image second digits (Some (Run steps report)) = said_of_files (running report steps) image second
-said_by image second digits (Some (Plain steps)) = said_of_files (running false steps) image second
-said_by image second digits (Some (Hostile steps)) = said_of_files (answering steps) image second
-said_by image second digits (Some ShowPage) = option_map (λ text. says_output text) (reading_by digits (Some ShowPage))
-said_by image second digits (Some (ShowMsr word)) = option_map (λ text. says_output text) (reading_by digits (Some (ShowMsr word)))
-said_by image second digits (Some (ShowInfo word)) = option_map (λ text. says_output text) (reading_by digits (Some (ShowInfo word)))
-said_by image second digits (Some (Make number)) = Some (says_output (summary_of number))
-said_by image second digits None = Some says_usage
+-- what is to be said of a run on an image alone
+abbrev pub said_on : (Contents → List ℕ) → Result Contents Refused → Said
+said_on text (Ok image) = says_output (text image)
+said_on text (Err refused) = says_refused refused
 
--- a command makes its text of two files in this way, and is no reading
+abbrev pub said_of_image : (Contents → List ℕ) → Option (List ℕ) → Option Said
+said_of_image text image = option_map (λ bytes. said_on text (image_in bytes)) image
+
+-- by the words that came, the bytes of both files, the digits of a page, and the command
+abbrev pub said_by : List ℕ → Option (List ℕ) → Option (List ℕ) → List ℕ → Option Command → Option Said
+said_by heard image second digits (Some (Run steps report)) = said_of_files (running report steps) image second
+said_by heard image second digits (Some (Plain steps)) = said_of_files (running false steps) image second
+said_by heard image second digits (Some (Hostile steps)) = said_of_files (answering steps) image second
+said_by heard image second digits (Some (Secret steps)) = said_of_files (judging steps) image second
+said_by heard image second digits (Some (Live seed steps)) = said_of_image (λ contents. answered_text contents steps heard) image
+said_by heard image second digits (Some ShowPage) = option_map (λ text. says_output text) (reading_by digits (Some ShowPage))
+said_by heard image second digits (Some (ShowMsr word)) = option_map (λ text. says_output text) (reading_by digits (Some (ShowMsr word)))
+said_by heard image second digits (Some (ShowInfo word)) = option_map (λ text. says_output text) (reading_by digits (Some (ShowInfo word)))
+said_by heard image second digits (Some (Make number)) = Some (says_output (summary_of number))
+said_by heard image second digits None = Some says_usage
+
+-- a command makes its text of two files in this way, whichever words came, and is no reading
 pub record IsMadeBy (c : Command) (m : Making) : Type 0 where
-  pub made : (image second : Option (List ℕ)) (digits : List ℕ) → said_by image second digits (Some c) ≡ said_of_files m image second
+  pub made : (heard : List ℕ) (image second : Option (List ℕ)) (digits : List ℕ) → said_by heard image second digits (Some c) ≡ said_of_files m image second
   pub unread : (digits : List ℕ) → reading_by digits (Some c) ≡ None
 
 -- What the program is to say: of a run the words first, then the image's limit and form, then the limit and form of the input or
--- the script, then the text of the run; of a reading its text, and of a made image its summary. There is none where a file that is read is absent.
-abbrev pub said : Folder → List (List ℕ) → Option Said
-said folder words = said_by (folder (command_word words 1)) (folder (command_word words 2)) (command_word words 2) (command_of words)
+-- the script, then the text of the run; of a reading its text, and of a made image its summary. The words that came matter to the
+-- text of a run on a page that another thread changes alone. There is none where a file that is read is absent.
+abbrev pub said : List ℕ → Folder → List (List ℕ) → Option Said
+said heard folder words = said_by heard (folder (command_word words 1)) (folder (command_word words 2)) (command_word words 2) (command_of words)
 
--- it is to end so
+-- it is to end so, whichever words came
 abbrev pub IsToEnd : Option Folder → List (List ℕ) → ℕ → Type 0
-IsToEnd folder words status = IfSome folder (λ f. (s : Said) × (said f words ≡ Some s) × (s.status ≡ status))
+IsToEnd folder words status = IfSome folder (λ f. (heard : List ℕ) → (s : Said) × (said heard f words ≡ Some s) × (s.status ≡ status))

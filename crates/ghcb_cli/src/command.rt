@@ -18,6 +18,10 @@ pub enum Command {
     Plain { steps: u64 },
     /// Runs vCPU 0 of an image on the words of a script, within so many steps.
     Hostile { steps: u64 },
+    /// Runs vCPU 0 of an image on a page that another thread changes by a seed, within so many steps.
+    Live { seed: u64, steps: u64 },
+    /// Runs vCPU 0 of an image with labels on the words of a script, within so many steps.
+    Secret { steps: u64 },
     /// Reads a page.
     ShowPage,
     /// Reads an MSR word.
@@ -47,6 +51,16 @@ pub enum Task<'a> {
         script: &'a str,
         steps: u64,
     },
+    Live {
+        image: &'a str,
+        seed: u64,
+        steps: u64,
+    },
+    Secret {
+        image: &'a str,
+        script: &'a str,
+        steps: u64,
+    },
     ShowPage(Words),
     ShowMsr(u64),
     ShowInfo(u64),
@@ -56,7 +70,7 @@ pub enum Task<'a> {
 /// The most steps that a run over the host or of the plain machine can be given.
 pub const MOST_STEPS: u64 = 2_097_152;
 
-/// The most steps that a run on a script can be given.
+/// The most steps that a run against a host can be given.
 const MOST_HOSTILE_STEPS: u64 = 65_536;
 
 /// The greatest number of which an image is made.
@@ -141,9 +155,21 @@ fn show<'a>(kind: &str, digits: &str) -> Option<Task<'a>>
     }
 }
 
-/// A run by its name, the names of its two files, and its steps.
+/// A run on a page that another thread changes, by its image, its seed and its steps.
+fn live_by<'a>(image: &'a str, seed: &[u8], steps: &[u8]) -> Option<Task<'a>>
+    ensures command { option_map command_in result ≡ Rattle.ghcb_cli.specs.Command.live_by seed.now steps.now }
+    ensures words { IfSome result (λ task. HasWords image.now seed.now task) }
+    ensures within { IfSome result IsWithin }
+{
+    let seed = decimal(seed, 0, u64::MAX)?;
+    let steps = decimal(steps, 1, MOST_HOSTILE_STEPS)?;
+    Some(Task::Live { image, seed, steps })
+}
+
+/// A run by its name, the name of its image, its second word, and its steps.
 fn run_named<'a>(name: &str, image: &'a str, second: &'a str, steps: &[u8]) -> Option<Task<'a>>
-    ensures command { option_map command_in result ≡ Rattle.ghcb_cli.specs.Command.run_named name.now steps.now }
+    ensures command { option_map command_in result ≡ Rattle.ghcb_cli.specs.Command.run_named
+        name.now second.now steps.now }
     ensures words { IfSome result (λ task. HasWords image.now second.now task) }
     ensures within { IfSome result IsWithin }
 {
@@ -167,6 +193,15 @@ fn run_named<'a>(name: &str, image: &'a str, second: &'a str, steps: &[u8]) -> O
         },
         "hostile" => match decimal(steps, 1, MOST_HOSTILE_STEPS) {
             Some(steps) => Some(Task::Hostile {
+                image,
+                script: second,
+                steps,
+            }),
+            None => None,
+        },
+        "live" => live_by(image, second.as_bytes(), steps),
+        "secret" => match decimal(steps, 1, MOST_HOSTILE_STEPS) {
+            Some(steps) => Some(Task::Secret {
                 image,
                 script: second,
                 steps,
@@ -280,6 +315,8 @@ pub fn parse(words: &[String]) -> Option<Command>
         Some(Task::Run { steps, report, .. }) => Some(Command::Run { steps, report }),
         Some(Task::Plain { steps, .. }) => Some(Command::Plain { steps }),
         Some(Task::Hostile { steps, .. }) => Some(Command::Hostile { steps }),
+        Some(Task::Live { seed, steps, .. }) => Some(Command::Live { seed, steps }),
+        Some(Task::Secret { steps, .. }) => Some(Command::Secret { steps }),
         Some(Task::ShowPage(_)) => Some(Command::ShowPage),
         Some(Task::ShowMsr(word)) => Some(Command::ShowMsr(word)),
         Some(Task::ShowInfo(word)) => Some(Command::ShowInfo(word)),

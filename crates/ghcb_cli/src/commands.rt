@@ -23,6 +23,8 @@ pub enum Ending {
     Plain(Finished),
     Made(Finished),
     Answered { finished: Finished, heard: Vec<u64> },
+    Heard { finished: Finished, heard: Vec<u64> },
+    Judged,
     Usage,
     Shown,
     Refused(Refused),
@@ -42,7 +44,7 @@ pub fn put<S: Sink>(out: &mut S, text: &[u8], done: Ending) -> Ending
 }
 
 /// Reports why there is nothing to run.
-fn report<S: Sink>(out: &mut S, unready: Unready) -> Ending
+pub fn report<S: Sink>(out: &mut S, unready: Unready) -> Ending
     ensures ends { GivesUpAs unready (S.told out.old) (S.told out.new) result }
 {
     match unready {

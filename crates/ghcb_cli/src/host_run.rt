@@ -77,5 +77,5 @@ impl OnFiles for OverHost {
         write_run(alloc, self.report, host.console(), finished, out)
     }
 
-    ghost made = { λ c. record { made = λ image second digits. refl; unread = λ digits. refl } };
+    ghost made = { λ c. record { made = λ heard image second digits. refl; unread = λ digits. refl } };
 }

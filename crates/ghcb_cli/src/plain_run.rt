@@ -56,5 +56,5 @@ impl OnFiles for OverDevices {
         put(out, &console, Ending::Plain(finished))
     }
 
-    ghost made = { λ c. record { made = λ image second digits. refl; unread = λ digits. refl } };
+    ghost made = { λ c. record { made = λ heard image second digits. refl; unread = λ digits. refl } };
 }

@@ -1,25 +1,29 @@
 // The top call.
-ghost use Rattle.std.specs.Prelude.{◌≡◌, ◌≤◌, ◌⊎◌, IfSome, IsSomeAnd, Some, None, [], List, ℕ, Bool, false, true, length, map};
+ghost use Rattle.std.specs.Prelude.{◌≡◌, ◌≤◌, ◌⊎◌, IfSome, IsSomeAnd, Some, None, [], List, ℕ, Bool, false, true, map};
 ghost use Rattle.std.specs.String.{string_bytes};
 ghost use Rattle.host_events.specs.Hosting.{IsTelling};
-ghost use Rattle.run_io.specs.Outside.{Rose, Puts, HasSpace, wrote};
-ghost use Rattle.ghcb_cli.specs.Command.{calls_host, command_of, reading_of};
+ghost use Rattle.run_io.specs.Outside.{Rose, Puts, wrote};
+ghost use Rattle.ghcb_cli.specs.Command.{calls_host, command_of, hands_back, reading_of};
+ghost use Rattle.ghcb_cli.specs.LiveCommand.{RunsLive};
 ghost use Rattle.ghcb_cli.specs.MakeCommand.{RunsMade};
 ghost use Rattle.ghcb_cli.specs.PlainCommand.{RunsPlain};
 ghost use Rattle.ghcb_cli.specs.RunCommand.{RunsFiles};
 ghost use Rattle.ghcb_cli.specs.ScriptCommand.{RunsScript};
+ghost use Rattle.ghcb_cli.specs.SecretCommand.{Judges};
 ghost use Rattle.ghcb_cli.specs.Said.{Said, said, IsToEnd};
-ghost use Rattle.ghcb_cli.specs.Ending.{EndsAs, PutsAs, Uses, Refuses, FailsRead, FailsWrite, IsKnown, IsStatus, IsWithoutRun, finished_of, told};
-ghost use Rattle.ghcb_cli.specs.declared.command.Command.TheVariants.{Run, Plain, Hostile, Make};
+ghost use Rattle.ghcb_cli.specs.Ending.{EndsAs, PutsAs, Uses, Refuses, FailsRead, FailsWrite, HasRoomFor, IsKnown, IsStatus, IsWithoutRun, finished_of, told};
+ghost use Rattle.ghcb_cli.specs.declared.command.Command.TheVariants.{Run, Plain, Hostile, Live, Secret, Make};
 ghost use Rattle.ghcb_cli.specs.declared.commands.Ending.TheVariants as ending;
 ghost use Rattle.ghcb_cli.specs.Text.{usage as usage_text};
 
 use crate::command::{Task, task_in};
 use crate::commands::{Ending, on_files, put};
 use crate::host_run::OverHost;
+use crate::live_run::on_live_page;
 use crate::make_run::run_made;
 use crate::plain_run::OverDevices;
 use crate::script_run::OnScript;
+use crate::secret_run::WithLabels;
 use crate::text::{Refused, usage};
 use event_table::{End, Finished, Turn};
 use host_events::Host;
@@ -29,7 +33,8 @@ use std::alloc::Global;
 use std::thread::Threads;
 
 /// How the call ends.
-fn ending_of<F: Files, S: Sink, H: Host>(
+fn ending_of<R: Threads, F: Files, S: Sink, H: Host>(
+    rt: &R,
     alloc: Global,
     words: &[String],
     files: &mut F,
@@ -84,6 +89,24 @@ fn ending_of<F: Files, S: Sink, H: Host>(
                 steps,
             },
         ) => on_files(alloc, &OnScript { steps }, image, script, files, out, host),
+        Some(Task::Live { image, seed, steps }) => {
+            on_live_page(rt, alloc, image, seed, steps, files, out)
+        }
+        Some(
+            Task::Secret {
+                image,
+                script,
+                steps,
+            },
+        ) => on_files(
+            alloc,
+            &WithLabels { steps },
+            image,
+            script,
+            files,
+            out,
+            host,
+        ),
         Some(Task::ShowPage(page)) => put(out, page_text(&page).as_bytes(), Ending::Shown),
         Some(Task::ShowMsr(word)) => put(out, msr_text(word).as_bytes(), Ending::Shown),
         Some(Task::ShowInfo(word)) => put(out, info_text(word).as_bytes(), Ending::Shown),
@@ -91,9 +114,9 @@ fn ending_of<F: Files, S: Sink, H: Host>(
     }
 }
 
-/// What a call of the program leaves: the status, the refusal where there is one, and of a run the
-/// order, the steps and the ends by vCPU number; of a run on a script there is no order, but the words
-/// that were loaded and read of the MSR. On another status than 0 all lists are empty.
+/// What a call of the program leaves: the status, the refusal where there is one, and of a run the order, the steps
+/// and the ends by vCPU number; of a run on a script, or on a page that another thread changes, there is no order, but
+/// the words that were loaded and read of the MSR. On another status than 0 all lists are empty.
 #[derive(Drop)]
 pub struct Done {
     pub status: u8,
@@ -145,19 +168,22 @@ impl Done {
 /// console, and with `report` behind these words the run's report in its place; `plain IMAGE INPUT STEPS`
 /// runs it with the devices alone, with no host and no page, and writes the console; `hostile IMAGE SCRIPT
 /// STEPS` runs vCPU 0 of the image on the words of the script and writes each item that it made on the page,
-/// and its end; `show page HEX`, `show msr HEX` and `show info HEX` write what the digits mean; `make N` runs
-/// the image that the number makes over the host and no input, and writes a summary of the run.
+/// and its end; `live IMAGE SEED STEPS` does so over a page that the stores of the seed change, once before the
+/// guest runs and once more by a thread beside it, or after it where no thread can be made; `secret IMAGE SCRIPT
+/// STEPS` runs it with labels on the words of the script and writes whether its secret flows; `show page HEX`,
+/// `show msr HEX` and `show info HEX` write what the digits mean; `make N` runs the image that the number makes over
+/// the host and no input, and writes a summary of the run.
 ///
 /// | Status | Comes |
 /// |---|---|
-/// | 0 | where the run's whole output, report or summary or the whole reading was written |
+/// | 0 | where the run's whole output, report, summary or verdict or the whole reading was written |
 /// | 2 | where the words are none of the grammar, and the usage line was written |
 /// | 3 | where a file breaks a limit or a rule; the first of them is `refused`, and its line was written |
 /// | 4 | only where a read failed; nothing was written |
 /// | 5 | only where a write failed; a prefix of the text was written |
 /// | 6 | where memory was wanting, of runs alone; nothing was written |
 pub fn ghcb_main<R: Threads + Sync, F: Files, S: Sink, H: Host>(
-    _rt: &R,
+    rt: &R,
     alloc: Global,
     words: &[String],
     files: &mut F,
@@ -184,6 +210,15 @@ pub fn ghcb_main<R: Threads + Sync, F: Files, S: Sink, H: Host>(
     ensures answered { (steps : ℕ) → command_of (map string_bytes words.now) ≡ Some (Hostile steps) → result.status ≡ 0
         → RunsScript (F.told files.old).folder (map string_bytes words.now)
         (finished_of result) result.told.items (S.told out.old).written (S.told out.new).written }
+    // The run on a page that another thread changes: the trace and the end of the run on the words that came were
+    // written, and these words, the steps and the end are handed back. No clause tells which words the page gives.
+    ensures live { (seed steps : ℕ) → command_of (map string_bytes words.now) ≡ Some (Live seed steps)
+        → result.status ≡ 0 → RunsLive (F.told files.old).folder (map string_bytes words.now)
+        (finished_of result) result.told.items (S.told out.old).written (S.told out.new).written }
+    // The run with labels on a script's words: the verdict was written, and nothing is handed back.
+    ensures secret { (steps : ℕ) → command_of (map string_bytes words.now) ≡ Some (Secret steps) → result.status ≡ 0
+        → Judges (F.told files.old).folder (map string_bytes words.now) (S.told out.old).written (S.told out.new).written
+        × IsWithoutRun result }
     // The host is called for a run over it alone, of an image that is read or made.
     ensures uncalled { calls_host (command_of (map string_bytes words.now)) ≡ false → H.told host.new ≡ H.told host.old }
     // A reading is shown, or a write of it failed: no memory is wanted.
@@ -209,23 +244,27 @@ pub fn ghcb_main<R: Threads + Sync, F: Files, S: Sink, H: Host>(
     // Without a failed read or write, and with the files there, it ends as it is to end, or memory was wanting.
     ensures complete { (Rose (F.told files.old).faults (F.told files.new).faults → ⊥)
         → (Rose (S.told out.old).faults (S.told out.new).faults → ⊥)
-        → IfSome (F.told files.old).folder (λ folder. (s : Said) → said folder (map string_bytes words.now) ≡ Some s
+        → IfSome (F.told files.old).folder (λ folder. (heard : List ℕ) (s : Said)
+        → said heard folder (map string_bytes words.now) ≡ Some s
         → (result.status ≡ s.status) ⊎ (result.status ≡ 6)) }
-    // The same where it is told that no read fails and that the text has room.
+    // The same where it is told that no read fails and that the text has room, whichever words come.
     ensures certain { (F.told files.old).is_reliable ≡ true
-        → IfSome (F.told files.old).folder (λ folder. (s : Said) → said folder (map string_bytes words.now) ≡ Some s
-        → IsKnown (map string_bytes words.now) (H.told host.old) s → HasSpace (S.told out.old) (length s.text)
+        → IfSome (F.told files.old).folder (λ folder. HasRoomFor folder (map string_bytes words.now) (S.told out.old)
+        → (heard : List ℕ) (s : Said) → said heard folder (map string_bytes words.now) ≡ Some s
+        → IsKnown (map string_bytes words.now) (H.told host.old) s
         → (result.status ≡ s.status) ⊎ (result.status ≡ 6)) }
     ensures lists { (result.status ≡ 0) ⊎ IsWithoutRun result }
-    ensures told { ((steps : ℕ) → command_of (map string_bytes words.now) ≡ Some (Hostile steps)
-        → result.status ≡ 0 → ⊥)
-        → result.told.items ≡ [] }
+    // Words are handed back of a run against a host that ended with status 0 alone.
+    ensures told { hands_back (command_of (map string_bytes words.now)) ≡ false → result.told.items ≡ [] }
+    ensures untold { (result.status ≡ 0) ⊎ (result.told.items ≡ []) }
 {
-    match ending_of(alloc, words, files, out, host) {
+    match ending_of(rt, alloc, words, files, out, host) {
         Ending::Done(finished) => Done::with_run(finished, Vec::new(alloc)),
         Ending::Plain(finished) => Done::with_run(finished, Vec::new(alloc)),
         Ending::Made(finished) => Done::with_run(finished, Vec::new(alloc)),
         Ending::Answered { finished, heard } => Done::with_run(finished, heard),
+        Ending::Heard { finished, heard } => Done::with_run(finished, heard),
+        Ending::Judged => Done::without_run(alloc, 0, None),
         Ending::Usage => Done::without_run(alloc, 2, None),
         Ending::Shown => Done::without_run(alloc, 0, None),
         Ending::Refused(refused) => Done::without_run(alloc, 3, Some(refused)),

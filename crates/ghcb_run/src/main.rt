@@ -1,6 +1,8 @@
 //! `ghcb_run run IMAGE INPUT STEPS` runs a guest over a hypervisor and prints its console, or with `report` its report;
 //! `ghcb_run plain IMAGE INPUT STEPS` runs it with the devices alone; `ghcb_run hostile IMAGE SCRIPT STEPS` runs it on the
-//! words of a script and prints its trace; `ghcb_run show page|msr|info HEX` prints what the digits mean.
+//! words of a script, and `ghcb_run live IMAGE SEED STEPS` on a page that another thread changes, and each prints its
+//! trace; `ghcb_run secret IMAGE SCRIPT STEPS` prints whether its secret flows; `ghcb_run show page|msr|info HEX` prints
+//! what the digits mean; and `ghcb_run make N` runs a large image that a number makes, and prints a summary.
 #![tactic(auto)]
 
 use ghcb_cli::ghcb_main;

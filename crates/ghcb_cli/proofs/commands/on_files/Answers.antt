@@ -2,7 +2,7 @@ use Rattle.std.proofs.Common.{List, ℕ, Ok, refl, subst}
 use Rattle.ghcb_cli.specs.Command.{command_word}
 use Rattle.ghcb_cli.specs.Files.{Holds, AreRefused, AreUnread}
 use Rattle.ghcb_cli.specs.Unready.{Explains}
-use Rattle.ghcb_cli.proofs.Endings.{given_up}
+use Rattle.ghcb_cli.proofs.Endings.{files_given_up}
 use Rattle.ghcb_cli.proofs.commands.on_files.Goals as goal
 
 pub returns-in-Ok : goal.returns-in-Ok
@@ -23,7 +23,7 @@ returns-in-Err g c =
     let new = g.F.Files.told c.read_both.new.files in
     record {
       ends = λ words command first other.
-          given_up _ _ (g.met.C.OnFiles.made c.args.command.now) words c.in-Err.unready _ _ _ command refl
+          files_given_up _ _ (g.met.C.OnFiles.made c.args.command.now) words c.in-Err.unready _ _ _ command refl
           (subst (λ (name : List ℕ). Explains c.in-Err.unready (λ r. AreRefused parts old.folder (command_word words 1) name r) (AreUnread parts (command_word words 1) name old new)) other
           (subst (λ (name : List ℕ). Explains c.in-Err.unready (λ r. AreRefused parts old.folder name c.args.second.now r) (AreUnread parts name c.args.second.now old new)) first
           c.in-Err.ensures.refused))

@@ -3,7 +3,7 @@ use Rattle.std.specs.Prelude.{option_map}
 use Rattle.std.specs.String.{string_bytes}
 use Rattle.page_words.specs.Told.{Kept}
 use Rattle.show_text.specs.Page.{page_text}
-use Rattle.ghcb_cli.specs.declared.command.Command.TheVariants.{Hostile, ShowPage, ShowMsr, ShowInfo, Make}
+use Rattle.ghcb_cli.specs.declared.command.Command.TheVariants.{Hostile, Live, Secret, ShowPage, ShowMsr, ShowInfo, Make}
 use Rattle.ghcb_cli.specs.declared.command.Task.{Task}
 use Rattle.ghcb_cli.specs.declared.command.Task.TheVariants as task
 use Rattle.ghcb_cli.specs.declared.commands.Ending.TheVariants as ending
@@ -27,6 +27,22 @@ returns-in-Some-Hostile-clause-ends g c =
     let has : HasWords (command_word words 1) (command_word words 2) (task.Hostile c.in-Some-Hostile.image c.in-Some-Hostile.script c.in-Some-Hostile.steps) =
     subst (λ (t : Task). HasWords (command_word words 1) (command_word words 2) t) c.in-Some-Hostile.field-0-is c.in-Some-Hostile.ensures.words in
     c.on_files-in-Some-Hostile.ensures.ends words command has.0 has.1
+
+pub returns-in-Some-Live-clause-ends : goal.returns-in-Some-Live-clause-ends
+returns-in-Some-Live-clause-ends g c =
+    let words = map string_bytes c.args.words.now in
+    let command : command_of words ≡ Some (Live c.in-Some-Live.seed c.in-Some-Live.steps) = search rules in
+    let has : HasWords (command_word words 1) (command_word words 2) (task.Live c.in-Some-Live.image c.in-Some-Live.seed c.in-Some-Live.steps) =
+    subst (λ (t : Task). HasWords (command_word words 1) (command_word words 2) t) c.in-Some-Live.field-0-is c.in-Some-Live.ensures.words in
+    c.on_live_page.ensures.ends words (g.H.Host.told c.args.host.now) command has
+
+pub returns-in-Some-Secret-clause-ends : goal.returns-in-Some-Secret-clause-ends
+returns-in-Some-Secret-clause-ends g c =
+    let words = map string_bytes c.args.words.now in
+    let command : command_of words ≡ Some (Secret c.in-Some-Secret.steps) = search rules in
+    let has : HasWords (command_word words 1) (command_word words 2) (task.Secret c.in-Some-Secret.image c.in-Some-Secret.script c.in-Some-Secret.steps) =
+    subst (λ (t : Task). HasWords (command_word words 1) (command_word words 2) t) c.in-Some-Secret.field-0-is c.in-Some-Secret.ensures.words in
+    c.on_files-in-Some-Secret.ensures.ends words command has.0 has.1
 
 pub returns-in-Some-ShowPage-clause-ends : goal.returns-in-Some-ShowPage-clause-ends
 returns-in-Some-ShowPage-clause-ends g c =

@@ -3,7 +3,7 @@ use Rattle.std.specs.String.{string_bytes}
 use Rattle.ghcb_cli.specs.declared.commands.Ending.TheVariants as ending
 use Rattle.event_table.specs.declared.turn.Finished.{Finished}
 use Rattle.ghcb_cli.specs.declared.command.Command.{Command}
-use Rattle.ghcb_cli.specs.declared.command.Command.TheVariants.{Run, Plain, Hostile, Make}
+use Rattle.ghcb_cli.specs.declared.command.Command.TheVariants.{Run, Plain, Hostile, Live, Secret, Make}
 use Rattle.ghcb_cli.specs.MakeCommand.{RunsMade}
 use Rattle.ghcb_cli.specs.Said.{says_refused}
 use Rattle.ghcb_cli.proofs.Answering.{no_reading, shown_is, to_end}
@@ -42,6 +42,34 @@ returns-in-Made-clause-complete g c =
 pub returns-in-Made-clause-certain : goal.returns-in-Made-clause-certain
 returns-in-Made-clause-certain g c = certain _ _ _ (ending.Made c.in-Made.finished) _ c.in-Made.ensures.ends c.with_run-in-Made.ensures.status
 
+pub returns-in-Done-clause-complete : goal.returns-in-Done-clause-complete
+returns-in-Done-clause-complete g c =
+    λ read written. end_complete _ (map string_bytes c.args.words.now) 0 _ c.in-Done.ensures.ends.is_end c.with_run.ensures.status
+
+pub returns-in-Done-clause-certain : goal.returns-in-Done-clause-certain
+returns-in-Done-clause-certain g c = certain _ _ _ (ending.Done c.in-Done.finished) _ c.in-Done.ensures.ends c.with_run.ensures.status
+
+pub returns-in-Answered-clause-complete : goal.returns-in-Answered-clause-complete
+returns-in-Answered-clause-complete g c =
+    λ read written. end_complete _ (map string_bytes c.args.words.now) 0 _ c.in-Answered.ensures.ends.is_end c.with_run-in-Answered.ensures.status
+
+pub returns-in-Answered-clause-certain : goal.returns-in-Answered-clause-certain
+returns-in-Answered-clause-certain g c = certain _ _ _ (ending.Answered c.in-Answered.finished c.in-Answered.heard) _ c.in-Answered.ensures.ends c.with_run-in-Answered.ensures.status
+
+pub returns-in-Judged-clause-complete : goal.returns-in-Judged-clause-complete
+returns-in-Judged-clause-complete g c =
+    λ read written. end_complete _ (map string_bytes c.args.words.now) 0 _ c.in-Judged.ensures.ends.is_end c.without_run.ensures.status
+
+pub returns-in-Judged-clause-certain : goal.returns-in-Judged-clause-certain
+returns-in-Judged-clause-certain g c = certain _ _ _ ending.Judged _ c.in-Judged.ensures.ends c.without_run.ensures.status
+
+pub returns-in-Heard-clause-complete : goal.returns-in-Heard-clause-complete
+returns-in-Heard-clause-complete g c =
+    λ read written. end_complete _ (map string_bytes c.args.words.now) 0 _ c.in-Heard.ensures.ends.is_end c.with_run-in-Heard.ensures.status
+
+pub returns-in-Heard-clause-certain : goal.returns-in-Heard-clause-certain
+returns-in-Heard-clause-certain g c = certain _ _ _ (ending.Heard c.in-Heard.finished c.in-Heard.heard) _ c.in-Heard.ensures.ends c.with_run-in-Heard.ensures.status
+
 pub returns-in-Refused-clause-complete : goal.returns-in-Refused-clause-complete
 returns-in-Refused-clause-complete g c =
     let words = map string_bytes c.args.words.now in
@@ -68,6 +96,16 @@ returns-in-Answered-clause-made g c = λ number command zero telling.
     let ran = c.in-Answered.ensures.ends in
     let wrong : Some (Hostile ran.steps) ≡ Some (Make number) = sym ran.command ∙ command in cc
 
+pub returns-in-Judged-clause-made : goal.returns-in-Judged-clause-made
+returns-in-Judged-clause-made g c = λ number command zero telling.
+    let ran = c.in-Judged.ensures.ends in
+    let wrong : Some (Secret ran.steps) ≡ Some (Make number) = sym ran.command ∙ command in cc
+
+pub returns-in-Heard-clause-made : goal.returns-in-Heard-clause-made
+returns-in-Heard-clause-made g c = λ number command zero telling.
+    let ran = c.in-Heard.ensures.ends in
+    let wrong : Some (Live ran.seed ran.steps) ≡ Some (Make number) = sym ran.command ∙ command in cc
+
 pub returns-in-Made-clause-made : goal.returns-in-Made-clause-made
 returns-in-Made-clause-made g c = λ number command zero telling.
     let words = map string_bytes c.args.words.now in
@@ -83,7 +121,7 @@ returns-in-Shown-clause-made g c = λ number command zero telling.
 
 pub returns-in-Usage-clause-made : goal.returns-in-Usage-clause-made
 returns-in-Usage-clause-made g c = λ number command zero telling.
-    let wrong : 2 ≡ 0 = sym c.without_run.ensures.status ∙ zero in cc
+    let wrong : 2 ≡ 0 = sym c.without_run-in-Usage.ensures.status ∙ zero in cc
 
 pub returns-in-Refused-clause-made : goal.returns-in-Refused-clause-made
 returns-in-Refused-clause-made g c = λ number command zero telling.
