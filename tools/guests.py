@@ -2,18 +2,19 @@
 from pathlib import Path
 
 EXAMPLES = Path(__file__).resolve().parent.parent / "examples"
-HOSTILE = EXAMPLES / "hostile"
+# The folders of guests against a script: the command that runs them, and the file that has what it is to print.
+SCRIPTED = {EXAMPLES / "hostile": ("hostile", "trace"), EXAMPLES / "secret": ("secret", "verdict")}
 NO_INPUT = EXAMPLES / "hello/empty"
 STEPS = 2097152
-HOSTILE_STEPS = 65536
+SCRIPT_STEPS = 65536
 # The guests of several vCPUs that print the same in whichever order these come to the devices.
 ANY_ORDER = ("chorus",)
 
 
 def folders():
-    """Each example's folder, those against hosts that nobody trusts last."""
-    for path in (EXAMPLES, HOSTILE):
-        yield from sorted(folder for folder in path.iterdir() if folder.is_dir() and folder != HOSTILE)
+    """Each example's folder, those against a script last."""
+    for path in (EXAMPLES, *SCRIPTED):
+        yield from sorted(folder for folder in path.iterdir() if folder.is_dir() and folder not in SCRIPTED)
 
 
 def image(folder):
@@ -27,8 +28,9 @@ def vcpus(folder):
 
 def words(folder):
     """The words of `ghcb_run` that run the example: over its input or none, or against its script."""
-    if folder.parent == HOSTILE:
-        return "hostile", image(folder), folder / "script", HOSTILE_STEPS
+    if folder.parent in SCRIPTED:
+        command, _ = SCRIPTED[folder.parent]
+        return command, image(folder), folder / "script", SCRIPT_STEPS
     given = folder / "input"
     return "run", image(folder), given if given.exists() else NO_INPUT, STEPS
 
@@ -38,8 +40,9 @@ def runs(folder):
 
     A run with no page between guest and devices prints what one over the hypervisor does.
     """
-    if folder.parent == HOSTILE:
-        yield words(folder), folder / "trace"
+    if folder.parent in SCRIPTED:
+        _, printed = SCRIPTED[folder.parent]
+        yield words(folder), folder / printed
         return
     run, *rest = words(folder)
     yield (run, *rest), folder / "stdout"
@@ -49,6 +52,6 @@ def runs(folder):
 
 
 def smp_runs(folder):
-    """The words of `ghcb_smp` that run the example, and the file that has what it is to print: where no order matters."""
-    if folder.parent != HOSTILE and (vcpus(folder) == 1 or folder.name in ANY_ORDER):
+    """The words of `ghcb_smp` that run the example, and the file that has what comes: where no order matters."""
+    if folder.parent not in SCRIPTED and (vcpus(folder) == 1 or folder.name in ANY_ORDER):
         yield words(folder)[1:], folder / "stdout"

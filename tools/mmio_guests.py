@@ -46,8 +46,11 @@ def operand(chosen, reg_bits, at):
     return bytes((mode | reg_bits << 3 | base & 7,)) + sib + after, base >> 3, put(base, at - displacement)
 
 
-def move(chosen):
-    """A move between the page and a register, or of an immediate, and before it what it needs."""
+def move(chosen, more):
+    """A move between the page and a register, or of an immediate, and before it what it needs.
+
+    `more` gives code that stands between them.
+    """
     opcode = bytes.fromhex(chosen.choice(OTHERS if chosen.random() < 0.02 else MOVES))
     is_byte = opcode in (b"\x88", b"\x8A", b"\xC6")
     has_number = opcode in (b"\xC6", b"\xC7")
@@ -59,7 +62,7 @@ def move(chosen):
     size = (1 if is_byte else 2 if is_short and not is_wide else 4) if has_number else 0
     number = chosen.choice((chosen.randbytes(size), b"\xFF" * size, b"\x80" * size))
     value = put(chosen.randrange(16), chosen.getrandbits(64))
-    return value + before + b"\x66" * is_short + bytes((rex,)) * has_rex + opcode + modrm + number
+    return value + before + more(chosen) + b"\x66" * is_short + bytes((rex,)) * has_rex + opcode + modrm + number
 
 
 def shown(at):
@@ -75,10 +78,10 @@ def shown(at):
     )
 
 
-def mmio_image(seed):
+def mmio_image(seed, more=lambda chosen: b""):
     """An image of one vCPU with one to twelve moves, which then puts out both ends of the page."""
     chosen = random.Random(seed)
-    moves = [move(chosen) for _ in range(chosen.randint(1, 12))]
+    moves = [move(chosen, more) for _ in range(chosen.randint(1, 12))]
     ends = shown(DEVICES) + shown(DEVICES + DEVICES_SIZE - SHOWN)
     code = b"".join(moves) + ends + chosen.choice(ENDINGS)
     return struct.pack("<8s2H4I36x", b"GHCBIMG1", 1, 0, RAM, len(code), 0, 0) + code

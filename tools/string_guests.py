@@ -23,8 +23,11 @@ def string_instruction(chosen):
     return b"".join(prefixes) + chosen.choice((b"\x6D", b"\x6F"))
 
 
-def string_step(chosen, ram):
-    """One string instruction, and before it what it needs: pointers, count, port and perhaps the direction flag."""
+def string_step(chosen, ram, more):
+    """One string instruction, and before it what it needs: pointers, count, port and perhaps the direction flag.
+
+    `more` gives code that stands between them.
+    """
     near_code, near_end = chosen.randrange(200), ram - chosen.randrange(12)
     addresses = (near_code, near_end, ram // 2, chosen.randrange(ram), chosen.getrandbits(32))
     count = chosen.choice(WIDE_COUNTS if chosen.random() < 0.2 else (*COUNTS, chosen.randrange(3000)))
@@ -35,16 +38,17 @@ def string_step(chosen, ram):
             b"\x48\xB9" + struct.pack("<Q", count),  # MOV RCX
             b"\xBA" + struct.pack("<I", chosen.choice(PORTS)),  # MOV EDX
             chosen.choice(FLAGS),
+            more(chosen),
             string_instruction(chosen),
         )
     )
 
 
-def string_image(seed):
-    """An image of one vCPU with one to four string instructions; the seed alone decides which."""
+def string_image(seed, more=lambda chosen: b""):
+    """An image of one vCPU with one to four string instructions; the seed alone decides which, and `more`."""
     chosen = random.Random(seed)
     ram = chosen.choice((PAGE, PAGE, 2 * PAGE))
-    steps = [string_step(chosen, ram) for _ in range(chosen.randint(1, 4))]
+    steps = [string_step(chosen, ram, more) for _ in range(chosen.randint(1, 4))]
     code = b"".join(steps) + chosen.choice(ENDINGS)
     data = chosen.randbytes(chosen.choice(DATA))
     handler = chosen.choice((0, len(code) - 1))  # of #GP
